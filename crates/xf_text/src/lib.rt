@@ -1,0 +1,8 @@
+//! What the program reads and writes: files, sinks, whole texts, numbers, and the faults of a text.
+//!
+//! It stands on `xf_num`. The kinds of fault F1 to F15 are the program's own; a place is an offset in bytes.
+#![tactic(auto)]
+
+mod fault;
+
+pub use fault::{Fault, FieldStop, Kind, Stop};
