@@ -1,2 +1,15 @@
-//! To be written.
+//! XCSP3-core instances: declarations, expressions, constraints, and which problem an instance is.
+//!
+//! It stands on `xf_num`, `xf_text` and `xf_problem`. Its definitions say what an instance means: the names and
+//! the domains of its variables (`specs/Names.antt`, `specs/Instance.antt`), the value of an expression
+//! (`specs/Value.antt`) and when a constraint holds (`specs/Instance.antt`). `problem_of` is the problem that
+//! the other crates cite.
 #![tactic(auto)]
+
+mod decl;
+mod expr;
+mod instance;
+
+pub use decl::{Cells, Decl, Decls};
+pub use expr::{Expr, Exprs, Op};
+pub use instance::{Constraint, Constraints, Instance};
