@@ -4,5 +4,7 @@
 #![tactic(auto)]
 
 mod fault;
+mod outside;
 
 pub use fault::{Fault, FieldStop, Kind, Stop};
+pub use outside::{Failed, Files, Shelf, Sink, Stored};

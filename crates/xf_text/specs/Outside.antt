@@ -1,0 +1,26 @@
+-- What is known of files and of what takes bytes.
+use Rattle.std.specs.Prelude.{◌≡◌, ◌⊎◌, ℕ, ◌-◌, ◌<◌, ◌^◌, Option, Some, None, List, [], ◌∷◌, ◌++◌, take, bytes_eq, cond}
+use Rattle.xf_text.specs.declared.outside.Stored.{Stored}
+
+-- a count of faults is greater than before, or stands at its last value
+abbrev pub Rose : ℕ → ℕ → Type 0
+Rose old new = (old < new) ⊎ (new ≡ 2 ^ 64 - 1)
+
+-- the bytes of the first file of a name
+abbrev pub file_named : List ℕ → List Stored → Option (List ℕ)
+file_named name [] = None
+file_named name (f ∷ fs) = cond (bytes_eq f.name name) (Some f.bytes) (file_named name fs)
+
+-- the same, where the files are told
+abbrev pub bytes_at : Option (List Stored) → List ℕ → Option (List ℕ)
+bytes_at None name = None
+bytes_at (Some fs) name = file_named name fs
+
+-- where the bytes are told, these were appended, and the bytes are still told
+abbrev pub Appended : Option (List ℕ) → Option (List ℕ) → List ℕ → Type 0
+Appended None new xs = Unit {0}
+Appended (Some bs) new xs = new ≡ Some (bs ++ xs)
+
+-- where the bytes are told, a prefix of these was appended
+abbrev pub AppendedFront : Option (List ℕ) → Option (List ℕ) → List ℕ → Type 0
+AppendedFront old new xs = (k : ℕ) × Appended old new (take k xs)
