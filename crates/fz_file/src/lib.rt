@@ -1,0 +1,11 @@
+//! FlatZinc text: the layout in which a model is written, and printers of its lines.
+//!
+//! It stands on `xf_num`, `xf_text` and `fz_model`, and prints numbers by `itoa`. `specs/Layout.antt` says which
+//! bytes the lines of a model are; each printer appends exactly those of its line.
+#![tactic(auto)]
+
+mod argument;
+mod line;
+mod number;
+
+pub use line::{push_call, push_goal, push_var};
