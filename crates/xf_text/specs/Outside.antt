@@ -1,5 +1,5 @@
 -- What is known of files and of what takes bytes.
-use Rattle.std.specs.Prelude.{◌≡◌, ◌⊎◌, ℕ, ◌-◌, ◌<◌, ◌^◌, Option, Some, None, List, [], ◌∷◌, ◌++◌, take, bytes_eq, cond}
+use Rattle.std.specs.Prelude.{◌≡◌, ◌⊎◌, ℕ, ◌-◌, ◌<◌, ◌≤◌, ◌^◌, Option, Some, None, List, [], ◌∷◌, ◌++◌, length, take, drop, bytes_eq, cond}
 use Rattle.xf_text.specs.declared.outside.Stored.{Stored}
 
 -- a count of faults is greater than before, or stands at its last value
@@ -24,3 +24,17 @@ Appended (Some bs) new xs = new ≡ Some (bs ++ xs)
 -- where the bytes are told, a prefix of these was appended
 abbrev pub AppendedFront : Option (List ℕ) → Option (List ℕ) → List ℕ → Type 0
 AppendedFront old new xs = (k : ℕ) × Appended old new (take k xs)
+
+-- where the file is told, so many of its bytes were taken, and the others are left
+abbrev pub Took : Option (List ℕ) → Option (List ℕ) → ℕ → Type 0
+Took None left k = Unit {0}
+Took (Some bytes) left k = (k ≤ length bytes) × (left ≡ Some (drop k bytes))
+
+-- the same of a number up to this
+abbrev pub TookAtMost : Option (List ℕ) → Option (List ℕ) → ℕ → Type 0
+TookAtMost file left most = (k : ℕ) × (k ≤ most) × Took file left k
+
+-- where the file is told, it is what was read and then what is left
+abbrev pub Reading : Option (List ℕ) → Option (List ℕ) → List ℕ → Type 0
+Reading None left items = Unit {0}
+Reading (Some bytes) left items = (rest : List ℕ) × (left ≡ Some rest) × (items ++ rest ≡ bytes)

@@ -4,7 +4,11 @@
 #![tactic(auto)]
 
 mod fault;
+mod memory;
 mod outside;
+mod whole;
 
 pub use fault::{Fault, FieldStop, Kind, Stop};
+pub use memory::{MemShelf, MemSink, SureShelf, SureSink};
 pub use outside::{Failed, Files, Shelf, Sink, Stored};
+pub use whole::{MAX_BYTES, ReadStop, read_file, write_whole};

@@ -1,0 +1,99 @@
+//! Whole files are read, and whole texts written.
+
+ghost use Rattle.std.specs.Prelude.{◌≡◌, ◌⊎◌, ℕ, ◌+◌, ◌≤◌, true, false, IfOk, OnOk, OnErr, IfSome, IsErrOf, length, vec_len};
+ghost use Rattle.xf_text.specs.Outside.{Rose, bytes_at, Appended, AppendedFront, Took, TookAtMost};
+ghost use Rattle.xf_text.specs.declared.whole.ReadStop.TheVariants.{Failed as FailedRead, Memory};
+
+use crate::outside::{Failed, Shelf, Sink};
+use std::alloc::{AllocError, Global};
+use thiserror::Error;
+
+/// The most bytes that a file may have: 64 MiB.
+pub const MAX_BYTES: usize = 67_108_864;
+
+/// The most bytes that are asked for at once.
+const BLOCK_BYTES: usize = 65_536;
+
+/// Why a file was not read.
+#[derive(Clone, Copy, Debug, PartialEq, Eq, Error)]
+pub enum ReadStop {
+    /// A call on the files failed.
+    #[error("a file could not be read")]
+    Failed,
+    /// The file has more than `MAX_BYTES` bytes.
+    #[error("the file is longer than 67108864 bytes")]
+    Long,
+    /// Memory was wanting.
+    #[error("out of memory")]
+    Memory,
+}
+
+impl From<Failed> for ReadStop {
+    ghost from_gives = { λ _ e. e ≡ FailedRead };
+
+    fn from(_: Failed) -> Self {
+        ReadStop::Failed
+    }
+}
+
+impl From<AllocError> for ReadStop {
+    ghost from_gives = { λ _ e. e ≡ Memory };
+
+    fn from(_: AllocError) -> Self {
+        ReadStop::Memory
+    }
+}
+
+/// Writes all of the part; after `Failed` a prefix of it was appended.
+pub fn write_whole<W: Sink>(out: &mut W, part: &[u8]) -> Result<(), Failed>
+    ensures count { W.faults out.old ≤ W.faults out.new }
+    ensures ok { OnOk result (Appended (W.holds out.old) (W.holds out.new) part.now) }
+    ensures front { OnErr result (AppendedFront (W.holds out.old) (W.holds out.new) part.now) }
+    ensures cause { OnErr result (Rose (W.faults out.old) (W.faults out.new)) }
+{
+    let mut at = 0;
+    while at < part.len() {
+        at += out.write(&part[at..])?;
+    }
+    Ok(())
+}
+
+// Room for a block.
+fn new_block(alloc: Global) -> Result<Vec<u8>, AllocError>
+    ensures { IfOk result (λ block. vec_len block ≡ BLOCK_BYTES) }
+{
+    Ok(vec![in alloc; 0u8; BLOCK_BYTES]?)
+}
+
+/// Reads the named file to its end.
+///
+/// `Long` comes exactly where `MAX_BYTES + 1` bytes were taken, `Failed` only where the count of faults rose in
+/// this call.
+pub fn read_file<S: Shelf>(alloc: Global, files: &mut S, name: &str) -> Result<Vec<u8>, ReadStop>
+    requires { S.may_ask files.old name.now ≡ true }
+    ensures files { S.files files.new ≡ S.files files.old }
+    ensures asks { S.may_ask files.new ≡ S.may_ask files.old }
+    ensures count { S.faults files.old ≤ S.faults files.new }
+    ensures bytes { IfOk result (λ v. IfSome (bytes_at (S.files files.old) name.now) (λ bytes. v.items ≡ bytes)) }
+    ensures short { IfOk result (λ v. length v.items ≤ MAX_BYTES) }
+    ensures end { IfOk result (λ v. Took (bytes_at (S.files files.old) name.now) (S.left files.new) (length v.items)) }
+    ensures long { IsErrOf result ReadStop.Long → Took (bytes_at (S.files files.old) name.now) (S.left files.new) (MAX_BYTES + 1) }
+    ensures memory { IsErrOf result ReadStop.Memory → TookAtMost (bytes_at (S.files files.old) name.now) (S.left files.new) MAX_BYTES }
+    ensures failed { IsErrOf result ReadStop.Failed → (S.is_begun files.new ≡ false) ⊎ TookAtMost (bytes_at (S.files files.old) name.now) (S.left files.new) MAX_BYTES }
+    ensures cause { IsErrOf result ReadStop.Failed → Rose (S.faults files.old) (S.faults files.new) }
+{
+    files.begin(name)?;
+    let mut part = new_block(alloc)?;
+    let mut bytes = Vec::new(alloc);
+    'parts: loop {
+        let room = (MAX_BYTES + 1 - bytes.len()).min(BLOCK_BYTES);
+        let n = files.read(&mut part[..room])?;
+        if n == 0 {
+            return Ok(bytes);
+        }
+        if bytes.len() + n > MAX_BYTES {
+            return Err(ReadStop::Long);
+        }
+        bytes.extend_from_slice(&part[..n])?;
+    }
+}
