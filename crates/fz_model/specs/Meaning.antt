@@ -74,23 +74,23 @@ dot (c ∷ cs) [] = pos 0
 dot (c ∷ cs) (x ∷ xs) = (c *ℤ x) +ℤ dot cs xs
 
 abbrev pub is_one : ℤ → Truth
-is_one x = int_eq x (pos 1)
+is_one x = int_eq (pos 1) x
 
 abbrev pub is_zero : ℤ → Truth
-is_zero x = int_eq x (pos 0)
+is_zero x = int_eq (pos 0) x
 
 -- some of the first are true, or some of the second are false
 abbrev pub clause : List ℤ → List ℤ → Truth
 clause ps ns = list_any is_one ps || list_any is_zero ns
 
+abbrev pub differ : Truth → Truth → Truth
+differ true t = not t
+differ false t = t
+
 -- an odd number of them are true
 abbrev pub is_odd : List ℤ → Truth
 is_odd [] = false
 is_odd (x ∷ xs) = differ (is_one x) (is_odd xs)
-  where
-    differ : Truth → Truth → Truth
-    differ true t = not t
-    differ false t = t
 
 -- m is one of them, and none is less
 abbrev pub is_least : ℤ → List ℤ → Truth

@@ -3,6 +3,8 @@
 
 mod builtin;
 mod model;
+mod rows;
+mod worth;
 
 pub use builtin::Builtin;
 pub use model::{Arg, Args, Call, Calls, FzVar, FzVars, Goal, Model};
