@@ -142,15 +142,24 @@ row_of_two ArrayBoolOr xs r = is_truth r (list_any is_one xs.numbers)
 row_of_two SetIn x s = s.has x.number
 row_of_two _ x y = false
 
+-- the `_reif` rows with three arguments
+abbrev pub reified_of_three : Builtin → Worth → Worth → Worth → Truth
+reified_of_three IntEqReif x y r = is_truth r (row_of_two IntEq x y)
+reified_of_three IntNeReif x y r = is_truth r (row_of_two IntNe x y)
+reified_of_three IntLeReif x y r = is_truth r (row_of_two IntLe x y)
+reified_of_three IntLtReif x y r = is_truth r (row_of_two IntLt x y)
+reified_of_three BoolEqReif x y r = is_truth r (row_of_two BoolEq x y)
+reified_of_three BoolLeReif x y r = is_truth r (row_of_two BoolLe x y)
+reified_of_three BoolLtReif x y r = is_truth r (row_of_two BoolLt x y)
+reified_of_three BoolClauseReif x y r = is_truth r (row_of_two BoolClause x y)
+reified_of_three SetInReif x y r = is_truth r (row_of_two SetIn x y)
+reified_of_three _ x y r = false
+
 -- the rows with three arguments
 abbrev pub row_of_three : Builtin → Worth → Worth → Worth → Truth
 row_of_three IntLinEq cs xs k = int_eq (dot cs.numbers xs.numbers) k.number
 row_of_three IntLinNe cs xs k = not (int_eq (dot cs.numbers xs.numbers) k.number)
 row_of_three IntLinLe cs xs k = int_le (dot cs.numbers xs.numbers) k.number
-row_of_three IntEqReif x y r = is_truth r (row_of_two IntEq x y)
-row_of_three IntNeReif x y r = is_truth r (row_of_two IntNe x y)
-row_of_three IntLeReif x y r = is_truth r (row_of_two IntLe x y)
-row_of_three IntLtReif x y r = is_truth r (row_of_two IntLt x y)
 row_of_three IntPlus x y z = int_eq (x.number +ℤ y.number) z.number
 row_of_three IntTimes x y z = int_eq (x.number *ℤ y.number) z.number
 row_of_three IntDiv x y z = is_quotient x.number y.number z.number
@@ -161,17 +170,12 @@ row_of_three ArrayIntElement i xs c = is_element i.number xs.numbers c.number
 row_of_three ArrayVarIntElement i xs c = is_element i.number xs.numbers c.number
 row_of_three ArrayBoolElement i xs c = is_element i.number xs.numbers c.number
 row_of_three ArrayVarBoolElement i xs c = is_element i.number xs.numbers c.number
-row_of_three BoolEqReif x y r = is_truth r (row_of_two BoolEq x y)
-row_of_three BoolLeReif x y r = is_truth r (row_of_two BoolLe x y)
-row_of_three BoolLtReif x y r = is_truth r (row_of_two BoolLt x y)
 row_of_three BoolAnd x y r = is_truth r (is_one x.number && is_one y.number)
 row_of_three BoolOr x y r = is_truth r (is_one x.number || is_one y.number)
 row_of_three BoolXor x y r = is_truth r (row_of_two BoolXor x y)
-row_of_three BoolClauseReif ps ns r = is_truth r (row_of_two BoolClause ps ns)
 row_of_three BoolLinEq cs xs k = int_eq (dot cs.numbers xs.numbers) k.number
 row_of_three BoolLinLe cs xs k = int_le (dot cs.numbers xs.numbers) k.number
-row_of_three SetInReif x s r = is_truth r (row_of_two SetIn x s)
-row_of_three _ x y z = false
+row_of_three i x y z = reified_of_three i x y z
 
 -- the rows with four arguments
 abbrev pub row_of_four : Builtin → Worth → Worth → Worth → Worth → Truth

@@ -1,6 +1,7 @@
 -- Which calls a sound model may have, and when the numbers of a call stay small.
-use Rattle.std.specs.Prelude.{◌≡◌, ◌⊎◌, ℕ, ◌-◌, ◌^◌, ℤ, pos, neg_ℤ, ◌≤ℤ◌, Bool as Truth, true, false, List, [], ◌∷◌, map, get_or, slice_get, Option, Some}
+use Rattle.std.specs.Prelude.{◌≡◌, ◌⊎◌, ℕ, ◌-◌, ◌^◌, ℤ, pos, neg_ℤ, ◌+ℤ◌, ◌*ℤ◌, ◌≤ℤ◌, FitsSigned, Bool as Truth, true, false, List, [], ◌∷◌, map, get_or, slice_get, Option, Some}
 use Rattle.std.specs.List.{AllByRecursion}
+use Rattle.std.specs.Int.{w128}
 use Rattle.xf_num.specs.Span.{Bounds, add_ends, mul_ends}
 use Rattle.fz_model.specs.declared.builtin.Builtin.{Builtin}
 use Rattle.fz_model.specs.declared.builtin.Builtin.TheVariants.{IntLinEq, IntLinNe, IntLinLe, IntLinEqReif, IntLinNeReif, IntLinLeReif, IntEq, IntNe, IntLe, IntLt, IntEqReif, IntNeReif, IntLeReif, IntLtReif, IntAbs, IntPlus, IntTimes, IntDiv, IntMod, IntMin, IntMax, ArrayIntMinimum, ArrayIntMaximum, ArrayIntElement, ArrayVarIntElement, ArrayBoolElement, ArrayVarBoolElement, Bool2Int, BoolEq, BoolLe, BoolLt, BoolEqReif, BoolLeReif, BoolLtReif, BoolNot, BoolAnd, BoolOr, BoolXor, BoolClause, BoolClauseReif, ArrayBoolAnd, ArrayBoolOr, ArrayBoolXor, BoolLinEq, BoolLinLe, SetIn, SetInReif}
@@ -38,6 +39,12 @@ abbrev pub SumsFit : Bounds → List Bounds → List Bounds → Type 0
 SumsFit sum [] xs = Unit {0}
 SumsFit sum (c ∷ cs) [] = Unit {0}
 SumsFit sum (c ∷ cs) (x ∷ xs) = IsSmall (mul_ends c x) × IsSmall (add_ends sum (mul_ends c x)) × SumsFit (add_ends sum (mul_ends c x)) cs xs
+
+-- each product, and the sum and each sum of it and a front of the products, is an i128
+abbrev pub ValuesFit : ℤ → List ℤ → List ℤ → Type 0
+ValuesFit sum [] xs = Unit {0}
+ValuesFit sum (c ∷ cs) [] = Unit {0}
+ValuesFit sum (c ∷ cs) (x ∷ xs) = FitsSigned w128 (c *ℤ x) × FitsSigned w128 (sum +ℤ (c *ℤ x)) × ValuesFit (sum +ℤ (c *ℤ x)) cs xs
 
 -- the products of the members of two lists
 abbrev pub ListsFit : List Bounds → Arg → Arg → Type 0

@@ -4,6 +4,7 @@
 mod builtin;
 mod model;
 mod rows;
+mod sums;
 mod worth;
 
 pub use builtin::Builtin;
