@@ -25,8 +25,14 @@ pub fn call_holds(call: &Call, b: &[i128]) -> bool
     requires { FitsValues b.now call.now }
     ensures { IsTrue result ↔ CallHolds b.now call.now }
 {
-    let builtin = call.builtin;
-    match call.args.as_slice() {
+    holds_at(call.builtin, call.args.as_slice(), b)
+}
+
+fn holds_at(builtin: Builtin, args: &[Arg], b: &[i128]) -> bool
+    requires { WorkFits (map exactly b.now) (work_of builtin) args.now }
+    ensures { result ≡ row_of builtin (map (worth b.now) args.now) }
+{
+    match args {
         [x] => holds_of_one(builtin, x, b),
         [x, y] => holds_of_two(builtin, x, y, b),
         [x, y, z] => holds_of_three(builtin, x, y, z, b),
