@@ -3,6 +3,9 @@
 
 mod builtin;
 mod model;
+mod rows;
+mod sums;
+mod worth;
 
 pub use builtin::Builtin;
 pub use model::{Arg, Args, Call, Calls, FzVar, FzVars, Goal, Model};

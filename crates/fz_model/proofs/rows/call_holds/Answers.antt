@@ -1,0 +1,7 @@
+use Rattle.std.proofs.Common.{◌≡◌, rules, List, true, sym, ◌∙◌, subst, map}
+use Rattle.fz_model.specs.Meaning.{CallHolds, HoldsAt}
+use Rattle.fz_model.proofs.rows.call_holds.Goals as goal
+
+pub returns : goal.returns
+unfolding CallHolds
+returns c = search rules
