@@ -11,7 +11,7 @@ mod row;
 mod span;
 mod stack;
 
-pub use domain::Domain;
+pub use domain::{Domain, DomainFault};
 pub use memory::NoMemory;
 pub use row::{Ints, Row, Text, Vars};
 pub use span::{Span, Spans};

@@ -1,4 +1,4 @@
-ghost use Rattle.std.specs.Prelude.{◌≡◌, [], ◌∷◌, ◌++◌, ◌<◌, length, slice_get, OnOk, OnErr};
+ghost use Rattle.std.specs.Prelude.{◌≡◌, [], ◌∷◌, ◌++◌, ◌<◌, length, take, slice_get, ◌↔◌, IsTrue, IfOk, OnOk, OnErr};
 
 use crate::memory::NoMemory;
 use std::alloc::Global;
@@ -47,6 +47,12 @@ impl<T> Row<T> {
     {
         self.items.len()
     }
+
+    pub fn is_empty(&self) -> bool
+        ensures { IsTrue result ↔ (self.now ≡ []) }
+    {
+        self.items.is_empty()
+    }
 }
 
 impl<T: Drop> Row<T> {
@@ -58,6 +64,13 @@ impl<T: Drop> Row<T> {
         self.items.push(item)?;
         Ok(())
     }
+
+    /// Drops all items from the `len`th on.
+    pub fn truncate(&mut self, len: usize)
+        ensures { self.new ≡ take len self.old }
+    {
+        self.items.truncate(len);
+    }
 }
 
 impl<T: Copy> Row<T> {
@@ -68,5 +81,13 @@ impl<T: Copy> Row<T> {
     {
         self.items.extend_from_slice(more)?;
         Ok(())
+    }
+
+    /// A row of the same items.
+    pub fn copy(&self, alloc: Global) -> Result<Row<T>, NoMemory>
+        ensures { IfOk result (λ row. row ≡ self.now) }
+    {
+        let items = Vec::from_slice(alloc, self.items.as_slice())?;
+        Ok(Row { items })
     }
 }
