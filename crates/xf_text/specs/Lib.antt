@@ -1,3 +1,4 @@
 pub mod Fault
 pub mod Memory
+pub mod Number
 pub mod Outside

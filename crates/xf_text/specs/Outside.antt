@@ -25,6 +25,11 @@ Appended (Some bs) new xs = new ≡ Some (bs ++ xs)
 abbrev pub AppendedFront : Option (List ℕ) → Option (List ℕ) → List ℕ → Type 0
 AppendedFront old new xs = (k : ℕ) × Appended old new (take k xs)
 
+-- where what is left is told, these are its first bytes, and the others are left now
+abbrev pub Taken : Option (List ℕ) → Option (List ℕ) → List ℕ → Type 0
+Taken None now xs = Unit {0}
+Taken (Some bytes) now xs = (rest : List ℕ) × (xs ++ rest ≡ bytes) × (now ≡ Some rest)
+
 -- where the file is told, so many of its bytes were taken, and the others are left
 abbrev pub Took : Option (List ℕ) → Option (List ℕ) → ℕ → Type 0
 Took None left k = Unit {0}
@@ -33,8 +38,3 @@ Took (Some bytes) left k = (k ≤ length bytes) × (left ≡ Some (drop k bytes)
 -- the same of a number up to this
 abbrev pub TookAtMost : Option (List ℕ) → Option (List ℕ) → ℕ → Type 0
 TookAtMost file left most = (k : ℕ) × (k ≤ most) × Took file left k
-
--- where the file is told, it is what was read and then what is left
-abbrev pub Reading : Option (List ℕ) → Option (List ℕ) → List ℕ → Type 0
-Reading None left items = Unit {0}
-Reading (Some bytes) left items = (rest : List ℕ) × (left ≡ Some rest) × (items ++ rest ≡ bytes)

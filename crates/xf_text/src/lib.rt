@@ -5,10 +5,12 @@
 
 mod fault;
 mod memory;
+mod number;
 mod outside;
 mod whole;
 
 pub use fault::{Fault, FieldStop, Kind, Stop};
 pub use memory::{MemShelf, MemSink, SureShelf, SureSink};
+pub use number::{NumberStop, read_int};
 pub use outside::{Failed, Files, Shelf, Sink, Stored};
 pub use whole::{MAX_BYTES, ReadStop, read_file, write_whole};

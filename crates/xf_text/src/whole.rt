@@ -1,7 +1,7 @@
 //! Whole files are read, and whole texts written.
 
-ghost use Rattle.std.specs.Prelude.{◌≡◌, ◌⊎◌, ℕ, ◌+◌, ◌≤◌, true, false, IfOk, OnOk, OnErr, IfSome, IsErrOf, length, vec_len};
-ghost use Rattle.xf_text.specs.Outside.{Rose, bytes_at, Appended, AppendedFront, Took, TookAtMost};
+ghost use Rattle.std.specs.Prelude.{◌≡◌, ◌⊎◌, ℕ, ◌+◌, ◌<◌, ◌≤◌, true, false, IfOk, OnOk, OnErr, IfSome, IsErrOf, length, vec_len, []};
+ghost use Rattle.xf_text.specs.Outside.{Rose, bytes_at, Appended, AppendedFront, Taken, Took, TookAtMost};
 ghost use Rattle.xf_text.specs.declared.whole.ReadStop.TheVariants.{Failed as FailedRead, Memory};
 
 use crate::outside::{Failed, Shelf, Sink};
@@ -65,6 +65,33 @@ fn new_block(alloc: Global) -> Result<Vec<u8>, AllocError>
     Ok(vec![in alloc; 0u8; BLOCK_BYTES]?)
 }
 
+// How many bytes to ask for after so many: up to one more than a file may have.
+fn room_after(taken: usize) -> usize
+    requires { taken ≤ MAX_BYTES }
+    ensures some { 0 < result }
+    ensures block { result ≤ BLOCK_BYTES }
+    ensures most { taken + result ≤ MAX_BYTES + 1 }
+{
+    (MAX_BYTES + 1 - taken).min(BLOCK_BYTES)
+}
+
+// Takes the next bytes of the begun file, no more than `room` has, and answers them.
+fn take_part<'a, S: Shelf>(files: &mut S, room: &'a mut [u8]) -> Result<&'a [u8], Failed>
+    requires { S.is_begun files.old ≡ true }
+    ensures files { S.files files.new ≡ S.files files.old }
+    ensures asks { S.may_ask files.new ≡ S.may_ask files.old }
+    ensures count { S.faults files.old ≤ S.faults files.new }
+    ensures begun { S.is_begun files.new ≡ true }
+    ensures within { IfOk result (λ part. length part.now ≤ length room.old) }
+    ensures next { IfOk result (λ part. Taken (S.left files.old) (S.left files.new) part.now) }
+    ensures end { IfOk result (λ part. length part.now ≡ 0 → 0 < length room.old → IfSome (S.left files.old) (λ bytes. bytes ≡ [])) }
+    ensures untaken { OnErr result (S.left files.new ≡ S.left files.old) }
+    ensures cause { OnErr result (Rose (S.faults files.old) (S.faults files.new)) }
+{
+    let n = files.read(room)?;
+    Ok(&room[..n])
+}
+
 /// Reads the named file to its end.
 ///
 /// `Long` comes exactly where `MAX_BYTES + 1` bytes were taken, `Failed` only where the count of faults rose in
@@ -83,17 +110,17 @@ pub fn read_file<S: Shelf>(alloc: Global, files: &mut S, name: &str) -> Result<V
     ensures cause { IsErrOf result ReadStop.Failed → Rose (S.faults files.old) (S.faults files.new) }
 {
     files.begin(name)?;
-    let mut part = new_block(alloc)?;
+    let mut block = new_block(alloc)?;
     let mut bytes = Vec::new(alloc);
     'parts: loop {
-        let room = (MAX_BYTES + 1 - bytes.len()).min(BLOCK_BYTES);
-        let n = files.read(&mut part[..room])?;
-        if n == 0 {
+        let room = room_after(bytes.len());
+        let part = take_part(files, &mut block[..room])?;
+        if part.is_empty() {
             return Ok(bytes);
         }
-        if bytes.len() + n > MAX_BYTES {
+        if bytes.len() + part.len() > MAX_BYTES {
             return Err(ReadStop::Long);
         }
-        bytes.extend_from_slice(&part[..n])?;
+        bytes.extend_from_slice(part)?;
     }
 }

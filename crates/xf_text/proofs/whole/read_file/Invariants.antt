@@ -1,5 +1,5 @@
 use Rattle.std.proofs.Common.{◌≡◌, ◌≤◌, ◌-◌, ◌+◌, ◌^◌, true, vec_len}
-use Rattle.xf_text.specs.Outside.{bytes_at, Reading}
+use Rattle.xf_text.specs.Outside.{bytes_at, Taken}
 use Rattle.xf_text.proofs.whole.read_file.Given as goal
 
 abbrev pub invariant-parts : goal.invariant-parts
@@ -11,8 +11,8 @@ invariant-parts g l =
       begun : s.is_begun l.files ≡ true;
       count : s.faults l.fn.files ≤ s.faults l.files;
       few : vec_len l.bytes ≤ 67108864;
-      block : vec_len l.part ≡ 65536;
-      reading : Reading (bytes_at (s.files l.fn.files) l.name) (s.left l.files) l.bytes.items;
+      room : vec_len l.block ≡ 65536;
+      taken : Taken (bytes_at (s.files l.fn.files) l.name) (s.left l.files) l.bytes.items;
     }
 
 abbrev pub decreases-parts : goal.decreases-parts
