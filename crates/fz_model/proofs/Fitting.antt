@@ -1,5 +1,5 @@
 -- Sums and products at one value of each variable.
-use Rattle.std.proofs.Common.{◌≡◌, ℕ, suc, ◌+◌, ◌<◌, ◌≤◌, min, ℤ, pos, ◌+ℤ◌, ◌*ℤ◌, ◌≤ℤ◌, Bool as Truth, true, false, cond, List, [], ◌∷◌, length, map, drop, get_or, refl, ap, sym, subst, ◌∙◌, arith, FitsSigned, to_z, of_z, to_z-of_z, ◌⊎◌, inl, inr}
+use Rattle.std.proofs.Common.{◌≡◌, ℕ, suc, ◌+◌, ◌<◌, ◌≤◌, min, ℤ, pos, ◌+ℤ◌, ◌*ℤ◌, ◌≤ℤ◌, Bool as Truth, true, false, cond, List, [], ◌∷◌, length, map, drop, get_or, refl, ap, sym, subst, ◌∙◌, arith, FitsSigned, to_z, of_z, to_z-of_z, ◌⊎◌, inl, inr, ◌↔◌}
 use Rattle.std.proofs.lemmas.Int.{ints}
 use Rattle.std.proofs.lemmas.List.{drop_more, drop_all}
 use Rattle.std.proofs.Math.ListN.{get_or-map}
@@ -106,6 +106,49 @@ dot_nil (c ∷ cs) = refl
 
 min_within : (m n i : ℕ) → min m n ≤ i → (m ≤ i) ⊎ (n ≤ i)
 min_within m n i le = grind arith
+
+-- the same of spans: the next product in front
+pub record FitsMeets (f : Arg → Bounds) (cs xs : List Arg) (sum p : Bounds) (i : ℕ) : Type 0 where
+  pub to : SumsFit sum (map f (drop i cs)) (map f (drop i xs)) → IsSmall p × IsSmall (add_ends sum p) × SumsFit (add_ends sum p) (map f (drop (i + 1) cs)) (map f (drop (i + 1) xs))
+  pub from : IsSmall p → IsSmall (add_ends sum p) → SumsFit (add_ends sum p) (map f (drop (i + 1) cs)) (map f (drop (i + 1) xs)) → SumsFit sum (map f (drop i cs)) (map f (drop i xs))
+
+meets_spans : (f : Arg → Bounds) (cs xs dc dx : List Arg) (sum : Bounds) (i : ℕ) (c x : Arg) → dc ≡ c ∷ drop (i + 1) cs → dx ≡ x ∷ drop (i + 1) xs
+    → (SumsFit sum (map f dc) (map f dx) → IsSmall (mul_ends (f c) (f x)) × IsSmall (add_ends sum (mul_ends (f c) (f x))) × SumsFit (add_ends sum (mul_ends (f c) (f x))) (map f (drop (i + 1) cs)) (map f (drop (i + 1) xs)))
+    × (IsSmall (mul_ends (f c) (f x)) → IsSmall (add_ends sum (mul_ends (f c) (f x))) → SumsFit (add_ends sum (mul_ends (f c) (f x))) (map f (drop (i + 1) cs)) (map f (drop (i + 1) xs)) → SumsFit sum (map f dc) (map f dx))
+meets_spans f cs xs dc dx sum i c x e g = (
+  λ h. subst (λ (l : List Arg). SumsFit sum (map f (c ∷ drop (i + 1) cs)) (map f l)) g (subst (λ (l : List Arg). SumsFit sum (map f l) (map f dx)) e h),
+  λ p q r. subst (λ (l : List Arg). SumsFit sum (map f l) (map f dx)) (sym e) (subst (λ (l : List Arg). SumsFit sum (map f (c ∷ drop (i + 1) cs)) (map f l)) (sym g) (p, q, r)),
+)
+
+pub fits_meets : (f : Arg → Bounds) (cs xs : List Arg) (sum : Bounds) (i : ℕ) (c x : Arg) → i < length cs → i < length xs → c ≡ get_or cs i c → x ≡ get_or xs i x → FitsMeets f cs xs sum (mul_ends (f c) (f x)) i
+fits_meets f cs xs sum i c x p q cis xis =
+    let m = meets_spans f cs xs (drop i cs) (drop i xs) sum i c x (drop_more cs i c p ∙ ap (λ (a : Arg). a ∷ drop (i + 1) cs) (sym cis)) (drop_more xs i x q ∙ ap (λ (a : Arg). a ∷ drop (i + 1) xs) (sym xis)) in
+    record { to = m.0; from = m.1 }
+
+pub fits_step : {All : Type 0} (f : Arg → Bounds) (cs xs : List Arg) (sum next low high : Bounds) (i : ℕ) (c x : Arg) → low ≡ f c → high ≡ f x → FitsMeets f cs xs sum (mul_ends (f c) (f x)) i
+    → IsSmall (mul_ends low high) × IsSmall (add_ends sum (mul_ends low high)) → next ≡ add_ends sum (mul_ends low high)
+    → (SumsFit sum (map f (drop i cs)) (map f (drop i xs)) ↔ All) → (SumsFit next (map f (drop (i + 1) cs)) (map f (drop (i + 1) xs)) ↔ All)
+fits_step f cs xs sum next low high i c x e g m small is all =
+    let p : Bounds = mul_ends (f c) (f x) in
+    let same : mul_ends low high ≡ p = ap (λ (z : Bounds). mul_ends z high) e ∙ ap (mul_ends (f c)) g in
+    let product : IsSmall p = subst IsSmall same small.0 in
+    let whole : IsSmall (add_ends sum p) = subst (λ (z : Bounds). IsSmall (add_ends sum z)) same small.1 in
+    let now : next ≡ add_ends sum p = is ∙ ap (add_ends sum) same in
+    (
+      λ h. all.0 (m.from product whole (subst (λ (z : Bounds). SumsFit z (map f (drop (i + 1) cs)) (map f (drop (i + 1) xs))) now h)),
+      λ h. subst (λ (z : Bounds). SumsFit z (map f (drop (i + 1) cs)) (map f (drop (i + 1) xs))) (sym now) (m.to (all.1 h)).2,
+    )
+
+fits_nil : (sum : Bounds) (cs : List Bounds) → SumsFit sum cs []
+fits_nil sum [] = tt
+fits_nil sum (c ∷ cs) = tt
+
+pub fits_done : (f : Arg → Bounds) (cs xs : List Arg) (sum : Bounds) (i : ℕ) → min (length cs) (length xs) ≤ i → SumsFit sum (map f (drop i cs)) (map f (drop i xs))
+fits_done f cs xs sum i le =
+    elim (min_within (length cs) (length xs) i le) [
+      | inl p ↦ subst (λ (l : List Arg). SumsFit sum (map f l) (map f (drop i xs))) (sym (drop_all i cs p)) tt
+      | inr p ↦ subst (λ (l : List Arg). SumsFit sum (map f (drop i cs)) (map f l)) (sym (drop_all i xs p)) (fits_nil sum (map f (drop i cs)))
+    ]
 
 -- where one of the lists is at its end, nothing is to come
 pub sum_done : (b : List ℤ) (cs xs : List Arg) (sum : ℤ) (i : ℕ) → min (length cs) (length xs) ≤ i → SumGoes b cs xs sum i → sum ≡ dot (map (number b) cs) (map (number b) xs)

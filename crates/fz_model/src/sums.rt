@@ -7,10 +7,6 @@ ghost use Rattle.fz_model.specs.Sound.{IsSmall, exactly, ends, SumsFit, ListsFit
 
 use crate::model::Arg;
 use crate::worth::{members, number};
-use xf_num::Span;
-
-/// The greatest magnitude of an integer of a model.
-const LIMIT: i128 = (1 << 126) - 1;
 
 /// The sum of two arguments.
 pub fn plus(x: &Arg, y: &Arg, b: &[i128]) -> i128
