@@ -131,7 +131,9 @@ impl Sink for SureSink {
 
     ghost faults = { λ _. 0 };
 
-    ghost bound = { λ _. Prim.omega Prim.arith };
+    ghost use Rattle.std.proofs.Common.{lit<};
+
+    ghost bound = { λ _. lit< tt };
 
     fn write(&mut self, part: &[u8]) -> Result<usize, Failed> {
         Ok(part.len())
@@ -334,7 +336,9 @@ impl Shelf for SureShelf {
 
     ghost faults = { λ _. 0 };
 
-    ghost bound = { λ _. Prim.omega Prim.arith };
+    ghost use Rattle.std.proofs.Common.{lit<};
+
+    ghost bound = { λ _. lit< tt };
 
     fn begin(&mut self, name: &str) -> Result<(), Failed> {
         self.desk.begin(name);

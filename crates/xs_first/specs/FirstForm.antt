@@ -10,29 +10,15 @@ use Rattle.xf_text.specs.declared.fault.Stop.TheVariants.{Refused, Memory}
 use Rattle.xs_model.specs.declared.decl.Decl.{Decl}
 use Rattle.xs_model.specs.declared.decl.Decl.TheVariants.{One, Array}
 use Rattle.xs_model.specs.declared.instance.Constraint.{Constraint}
-use Rattle.xs_model.specs.declared.instance.Constraint.TheVariants.{Intension, AllDifferent}
+use Rattle.xs_model.specs.declared.instance.Constraint.TheVariants.{AllDifferent}
 use Rattle.xs_model.specs.declared.instance.Instance.{Instance}
+use Rattle.xs_model.specs.Identifier.{is_digit, IsIdentifier}
+use Rattle.xs_model.specs.Sound.{names_of}
 
 -- text is the spellings of the items xs, one behind the other, and then rest
 abbrev pub Items : {A : Type 0} → (List ℕ → A → List ℕ → Type 0) → List ℕ → List A → List ℕ → Type 0
 Items Item text [] rest = text ≡ rest
 Items Item text (x ∷ xs) rest = (more : List ℕ) × Item text x more × Items Item more xs rest
-
--- an ASCII digit
-abbrev pub is_digit : ℕ → Bool
-is_digit b = nat_le 48 b && nat_le b 57
-
--- an ASCII letter or `_`
-abbrev pub is_letter : ℕ → Bool
-is_letter b = (nat_le 65 b && nat_le b 90) || (nat_le 97 b && nat_le b 122) || nat_eq b 95
-
-abbrev pub is_word : ℕ → Bool
-is_word b = is_letter b || is_digit b
-
--- a letter or `_`, and then letters, digits and `_` (XCSP3-core, identifiers of variables)
-abbrev pub IsIdentifier : List ℕ → Type 0
-IsIdentifier [] = ⊥
-IsIdentifier (b ∷ bs) = (is_letter b ≡ true) × (list_all is_word bs ≡ true)
 
 -- a `-` before the digits, where there is one
 abbrev pub signed_text : Bool → List ℕ → List ℕ
@@ -78,15 +64,6 @@ pub record IsDecl (text : List ℕ) (d : Decl) (rest : List ℕ) : Type 0 where
   pub declares : d ≡ One name (record { lo = lo; hi = hi } ∷ [])
   pub spelled : text ≡ codes "<var id=\"" ++ (name ++ (codes "\"> " ++ (low ++ (codes ".." ++ (high ++ (codes " </var>" ++ rest))))))
 
--- the name of a declaration
-abbrev pub name_of : Decl → List ℕ
-name_of (One name domain) = name
-name_of (Array name sizes cells) = name
-
--- the names of the variables, in order of their numbers
-abbrev pub names_of : List Decl → List (List ℕ)
-names_of ds = map name_of ds
-
 -- text is the name of variable k and a space, and then rest
 pub record IsUse (names : List (List ℕ)) (text : List ℕ) (k : ℕ) (rest : List ℕ) : Type 0 where
   pub name : List ℕ
@@ -98,12 +75,10 @@ pub record IsUse (names : List (List ℕ)) (text : List ℕ) (k : ℕ) (rest : L
 -- (XCSP3-core, allDifferent)
 abbrev pub IsPosted : List (List ℕ) → List ℕ → Constraint → List ℕ → Type 0
 IsPosted names text (AllDifferent list) rest = (uses : List ℕ) × (text ≡ codes "<allDifferent> " ++ uses) × Items (IsUse names) uses list (codes "</allDifferent>" ++ rest)
-IsPosted names text (Intension expr) rest = ⊥
 
 -- how many names a constraint uses
 abbrev pub uses_of : Constraint → ℕ
 uses_of (AllDifferent list) = length list
-uses_of (Intension expr) = 0
 
 abbrev pub used : List Constraint → ℕ
 used cs = sum (map uses_of cs)

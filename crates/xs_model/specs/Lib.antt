@@ -1,3 +1,5 @@
 pub mod Names
+pub mod Identifier
 pub mod Value
 pub mod Instance
+pub mod Sound

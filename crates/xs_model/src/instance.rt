@@ -1,12 +1,9 @@
 use crate::decl::Decls;
-use crate::expr::Expr;
 use xf_num::{Row, Vars};
 
 /// A constraint of one of the forms of XCSP3-core.
 #[derive(Drop)]
 pub enum Constraint {
-    /// The expression is 1.
-    Intension { expr: Expr },
     /// The values of the list differ pairwise.
     AllDifferent { list: Vars },
 }

@@ -1,0 +1,86 @@
+-- When an instance is well formed, and when it keeps the limits on what is read.
+use Rattle.std.specs.Prelude.{◌≡◌, ◌≢◌, ◌⊎◌, ℕ, ◌+◌, ◌*◌, ◌-◌, ◌^◌, ◌<◌, ◌≤◌, ℤ, pos, ◌≤ℤ◌, nat_abs, List, [], ◌∷◌, length, map, sum, AllPairs}
+use Rattle.std.specs.List.{AllByRecursion}
+use Rattle.xf_num.specs.Domain.{IsDomain, size_of}
+use Rattle.xf_num.specs.Span.{Bounds}
+use Rattle.xs_model.specs.declared.decl.Decl.{Decl}
+use Rattle.xs_model.specs.declared.decl.Decl.TheVariants.{One, Array}
+use Rattle.xs_model.specs.declared.instance.Constraint.{Constraint}
+use Rattle.xs_model.specs.declared.instance.Constraint.TheVariants.{AllDifferent}
+use Rattle.xs_model.specs.declared.instance.Instance.{Instance}
+use Rattle.xs_model.specs.Identifier.{IsIdentifier}
+use Rattle.xs_model.specs.Names.{places_of, words, domains, defined}
+
+-- the greatest magnitude of an integer
+abbrev pub magnitudes : ℕ
+magnitudes = 2 ^ 126 - 1
+
+abbrev pub IsSmall : ℤ → Type 0
+IsSmall z = nat_abs z ≤ magnitudes
+
+abbrev pub HasSmallEnds : Bounds → Type 0
+HasSmallEnds b = IsSmall b.lo × IsSmall b.hi
+
+-- a list of ranges that is a domain, of integers of at most that magnitude
+abbrev pub IsSoundDomain : List Bounds → Type 0
+IsSoundDomain d = IsDomain d × AllByRecursion HasSmallEnds d
+
+-- the number of cells of an array of these sizes
+abbrev pub cell_count : List ℤ → ℕ
+cell_count [] = 1
+cell_count (n ∷ ns) = places_of n * cell_count ns
+
+-- a declaration: an identifier; of an array sizes of at least 1, a cell for each place, and a defined cell
+abbrev pub IsSoundDecl : Decl → Type 0
+IsSoundDecl (One name domain) = IsIdentifier name × IsSoundDomain domain
+IsSoundDecl (Array name sizes cells) =
+    IsIdentifier name × (0 < length sizes) × AllByRecursion (λ n. pos 1 ≤ℤ n) sizes × (length cells ≡ cell_count sizes) × (0 < length (defined cells)) × AllByRecursion IsSoundDomain (defined cells)
+
+-- the name of a declaration
+abbrev pub name_of : Decl → List ℕ
+name_of (One name domain) = name
+name_of (Array name sizes cells) = name
+
+abbrev pub names_of : List Decl → List (List ℕ)
+names_of ds = map name_of ds
+
+-- a constraint over variables below n, of the shape that its form asks
+abbrev pub IsSoundConstraint : ℕ → Constraint → Type 0
+IsSoundConstraint n (AllDifferent list) = AllByRecursion (λ v. v < n) list
+
+pub record IsSound (i : Instance) : Type 0 where
+  pub distinct : AllPairs (λ a b. a ≢ b) (names_of i.decls)
+  pub decls : AllByRecursion IsSoundDecl i.decls
+  pub few : length (words i.decls) < 2 ^ 32
+  pub constraints : AllByRecursion (IsSoundConstraint (length (words i.decls))) i.constraints
+
+-- how many variables and array cells a declaration has, undefined cells included
+abbrev pub cells_of : Decl → ℕ
+cells_of (One name domain) = 1
+cells_of (Array name sizes cells) = length cells
+
+-- how many values of a domain are counted: all where it is more than one range, else none
+abbrev pub values_of : List Bounds → ℕ
+values_of [] = 0
+values_of (b ∷ []) = 0
+values_of (b ∷ c ∷ bs) = size_of (b ∷ c ∷ bs)
+
+-- the items of a constraint: its list members after expansion, its other integers and variables
+abbrev pub items_of : Constraint → ℕ
+items_of (AllDifferent list) = length list
+
+abbrev pub most_cells : ℕ
+most_cells = 1048576
+
+abbrev pub most_items : ℕ
+most_items = 4194304
+
+abbrev pub most_constraints : ℕ
+most_constraints = 67108864
+
+-- sound, and within the limits on what is read
+pub record IsAccepted (i : Instance) : Type 0 where
+  pub sound : IsSound i
+  pub cells : sum (map cells_of i.decls) ≤ most_cells
+  pub items : sum (map values_of (domains i.decls)) + sum (map items_of i.constraints) ≤ most_items
+  pub constraints : length i.constraints ≤ most_constraints
