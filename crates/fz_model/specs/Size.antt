@@ -1,5 +1,5 @@
 -- The size of a model.
-use Rattle.std.specs.Prelude.{ℕ, ◌+◌, List, length, map, sum}
+use Rattle.std.specs.Prelude.{ℕ, ◌+◌, length, map, sum}
 use Rattle.fz_model.specs.declared.model.Arg.{Arg}
 use Rattle.fz_model.specs.declared.model.Arg.TheOpen.{Arg-F}
 use Rattle.fz_model.specs.declared.model.Arg.TheFolds.{fold-Arg}
