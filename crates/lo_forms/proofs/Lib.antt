@@ -1,0 +1,3 @@
+pub mod CallLemmas
+pub mod DifferentLemmas
+pub mod FormLemmas

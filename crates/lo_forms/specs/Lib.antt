@@ -1,0 +1,4 @@
+pub mod Calls
+pub mod Different
+pub mod Form
+pub mod Laws
