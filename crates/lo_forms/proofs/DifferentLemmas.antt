@@ -3,10 +3,10 @@ use Rattle.std.proofs.Common.{◌≡◌, ◌≢◌, ℕ, zero, suc, ◌+◌, ◌
 use Rattle.std.proofs.lemmas.List.{length-append}
 use Rattle.std.proofs.lemmas.List.Kept.{AllPairs-cons}
 use Rattle.std.specs.List.{All}
-use Rattle.lo_forms.specs.Calls.{ne_call}
+use Rattle.fz_model.specs.Calls.{ne_call}
 use Rattle.fz_model.specs.Fixing.{NotOfBits}
 use Rattle.fz_model.specs.Meaning.{at}
-use Rattle.lo_forms.proofs.CallLemmas.{ne_says, ne_met}
+use Rattle.fz_model.proofs.Calls.{ne_says, ne_met}
 use Rattle.xs_model.specs.Instance.{AreDifferent}
 use Rattle.lo_base.specs.Item.{made}
 use Rattle.lo_base.specs.Lowered.{calls_of}

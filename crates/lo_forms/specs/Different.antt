@@ -1,6 +1,6 @@
 -- What `allDifferent` is lowered to (XCSP3-core, "Constraint allDifferent"; MiniZinc Handbook, "FlatZinc": int_ne).
 use Rattle.std.specs.Prelude.{ℕ, List, [], ◌∷◌, ◌++◌, map}
-use Rattle.lo_forms.specs.Calls.{ne_call}
+use Rattle.fz_model.specs.Calls.{ne_call}
 use Rattle.lo_base.specs.Item.{Item, Posted}
 
 -- x differs from each of ys

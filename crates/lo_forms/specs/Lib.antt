@@ -1,4 +1,3 @@
-pub mod Calls
 pub mod Different
 pub mod Form
 pub mod Laws

@@ -4,7 +4,7 @@ ghost use Rattle.std.specs.Prelude.{◌≡◌, OnOk, OnErr, IsErrOf};
 ghost use Rattle.xf_text.specs.Outside.{Rose};
 ghost use Rattle.lo_forms.specs.Different.{differ_from, low_different};
 
-use crate::calls::int_ne;
+use fz_model::int_ne;
 use lo_base::{Emit, EmitStop};
 use std::alloc::Global;
 

@@ -5,7 +5,6 @@
 //! says, its new variables follow from those before, and how much it is.
 #![tactic(auto)]
 
-mod calls;
 mod constraint;
 mod different;
 mod laws;
