@@ -7,6 +7,8 @@ use Rattle.xf_markup.specs.declared.tree.Piece.{Piece, Piece-F, out-Piece, roll-
 use Rattle.xf_markup.specs.declared.tree.Attr.{Attr}
 use Rattle.xf_markup.specs.Names.{is_name, is_name_start}
 use Rattle.xf_markup.specs.Head.{head_at}
+use Rattle.xf_markup.specs.Depth.{depth}
+use Rattle.xf_markup.proofs.DepthLemmas.{depth_same}
 use Rattle.xf_markup.specs.Tag.{are_distinct}
 use Rattle.xf_markup.specs.Tokens.{Token, Opens, Closes, Says}
 use Rattle.xf_markup.specs.Marks.{Mark, Opened, Said, Closed, flat, flat_piece, flat_pieces, said, Shown, nothing, tagged, add, shown}
@@ -269,7 +271,7 @@ written_head n ok =
     let tag = and_left (is_spelt_name x.name && (list_all is_spelt_attr x.attrs && are_distinct x.attrs)) _ all in
     ap (λ m. head_at (written m)) (sym (roll-out-Node n)) ∙ ap head_at (written_roll x) ∙ no_head x.name _ (and_left (is_spelt_name x.name) _ tag)
 
-pub round_trip : (n : Node) → is_spelt n ≡ true → (m : Node) × Tree m (written n) × (unplaced m ≡ unplaced n)
+pub round_trip : (n : Node) → is_spelt n ≡ true → (m : Node) × Tree m (written n) × (unplaced m ≡ unplaced n) × (depth m ≡ depth n)
 round_trip n ok =
     let text : List ℕ = written n in
     let got = all_read n ok (length text) start nothing [] (λ e. refl) in
@@ -285,4 +287,5 @@ round_trip n ok =
         marks = got.marks;
       },
       got.same,
+      depth_same got.tree n got.same,
     )

@@ -21,6 +21,9 @@ mod tag;
 mod tree;
 mod write;
 
+#[cfg(test)]
+mod tests;
+
 pub use read::{one_outcome, read_tree};
 pub use tree::{Attr, Node, Piece};
 pub use write::write_tree;
