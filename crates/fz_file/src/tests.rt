@@ -2,8 +2,7 @@
 
 use crate::{call_line, goal_line, var_line, write_model};
 use fz_model::{
-    Arg, Args, Builtin, FzVar, FzVars, Goal, Model, call_of, call_of_one, call_of_three,
-    call_of_two, int_ne,
+    Arg, Args, Builtin, Call, Calls, FzVar, FzVars, Goal, Model, call_of_three, call_of_two, int_ne,
 };
 use std::alloc::Global;
 use std::process::Abort;
@@ -131,18 +130,31 @@ fn two_named(alloc: Global) -> Result<FzVars, Fail> {
     Ok(named)
 }
 
+fn check_call(
+    rt: &impl Abort,
+    alloc: Global,
+    call: &Call,
+    named: &[FzVar],
+    expected: &[u8],
+) -> Result<(), NoMemory> {
+    assert!(rt; call_line(alloc, call, named)?.as_slice() == expected);
+    Ok(())
+}
+
 #[test]
 fn call_lines(rt: HostRuntime) -> Result<(), Fail> {
     let alloc = rt.alloc();
     let vars = two_named(alloc)?;
     let named = vars.as_slice();
     let plain = int_ne(alloc, 0, 1)?;
-    assert!(rt;
-        call_line(alloc, &plain, named)?.as_slice() == b"constraint int_ne(v_a,v_b_1);\n".as_slice()
-    );
-    assert!(rt;
-        call_line(alloc, &plain, &[])?.as_slice() == b"constraint int_ne(a_0,a_1);\n".as_slice()
-    );
+    check_call(
+        &rt,
+        alloc,
+        &plain,
+        named,
+        b"constraint int_ne(v_a,v_b_1);\n",
+    )?;
+    check_call(&rt, alloc, &plain, &[], b"constraint int_ne(a_0,a_1);\n")?;
     let sum = call_of_three(
         alloc,
         Builtin::IntLinEq,
@@ -150,50 +162,75 @@ fn call_lines(rt: HostRuntime) -> Result<(), Fail> {
         variables(alloc, &[1, 2])?,
         Arg::Int(-3),
     )?;
-    assert!(rt;
-        call_line(alloc, &sum, named)?.as_slice()
-            == b"constraint int_lin_eq([1,-1],[v_b_1,a_0],-3);\n".as_slice()
-    );
-    let range = call_of_three(
+    check_call(
+        &rt,
         alloc,
-        Builtin::SetInReif,
-        Arg::Var(0),
-        Arg::Range(Span::new(-2, 7).unwrap()),
-        Arg::Var(14),
+        &sum,
+        named,
+        b"constraint int_lin_eq([1,-1],[v_b_1,a_0],-3);\n",
     )?;
-    assert!(rt;
-        call_line(alloc, &range, named)?.as_slice()
-            == b"constraint set_in_reif(v_a,-2..7,a_12);\n".as_slice()
-    );
-    let among = call_of_two(alloc, Builtin::SetIn, Arg::Var(0), set(alloc, &[5, -3, 5])?)?;
-    assert!(rt;
-        call_line(alloc, &among, named)?.as_slice()
-            == b"constraint set_in(v_a,{5,-3,5});\n".as_slice()
-    );
-    let never = call_of_two(alloc, Builtin::SetIn, Arg::Int(7), set(alloc, &[])?)?;
-    assert!(rt;
-        call_line(alloc, &never, named)?.as_slice() == b"constraint set_in(7,{});\n".as_slice()
-    );
     let clause = call_of_two(
         alloc,
         Builtin::BoolClause,
         variables(alloc, &[])?,
         variables(alloc, &[2])?,
     )?;
-    assert!(rt;
-        call_line(alloc, &clause, named)?.as_slice()
-            == b"constraint bool_clause([],[a_0]);\n".as_slice()
-    );
+    check_call(
+        &rt,
+        alloc,
+        &clause,
+        named,
+        b"constraint bool_clause([],[a_0]);\n",
+    )?;
+    Ok(())
+}
+
+#[test]
+fn constants(rt: HostRuntime) -> Result<(), Fail> {
+    let alloc = rt.alloc();
+    let range = call_of_three(
+        alloc,
+        Builtin::SetInReif,
+        Arg::Var(0),
+        Arg::Range(Span::new(-2, 7).unwrap()),
+        Arg::Var(12),
+    )?;
+    check_call(
+        &rt,
+        alloc,
+        &range,
+        &[],
+        b"constraint set_in_reif(a_0,-2..7,a_12);\n",
+    )?;
+    let among = call_of_two(alloc, Builtin::SetIn, Arg::Var(0), set(alloc, &[5, -3, 5])?)?;
+    check_call(
+        &rt,
+        alloc,
+        &among,
+        &[],
+        b"constraint set_in(a_0,{5,-3,5});\n",
+    )?;
+    let never = call_of_two(alloc, Builtin::SetIn, Arg::Int(7), set(alloc, &[])?)?;
+    check_call(&rt, alloc, &never, &[], b"constraint set_in(7,{});\n")?;
     let truths = call_of_two(alloc, Builtin::BoolEq, Arg::Bool(true), Arg::Bool(false))?;
-    assert!(rt;
-        call_line(alloc, &truths, named)?.as_slice()
-            == b"constraint bool_eq(true,false);\n".as_slice()
-    );
-    let odd = call_of_one(alloc, Builtin::ArrayBoolXor, variables(alloc, &[2, 3, 4])?)?;
-    assert!(rt;
-        call_line(alloc, &odd, named)?.as_slice()
-            == b"constraint array_bool_xor([a_0,a_1,a_2]);\n".as_slice()
-    );
+    check_call(
+        &rt,
+        alloc,
+        &truths,
+        &[],
+        b"constraint bool_eq(true,false);\n",
+    )?;
+    Ok(())
+}
+
+fn check_goal(
+    rt: &impl Abort,
+    alloc: Global,
+    goal: Goal,
+    named: &[FzVar],
+    expected: &[u8],
+) -> Result<(), NoMemory> {
+    assert!(rt; goal_line(alloc, goal, named)?.as_slice() == expected);
     Ok(())
 }
 
@@ -202,45 +239,62 @@ fn goal_lines(rt: HostRuntime) -> Result<(), Fail> {
     let alloc = rt.alloc();
     let vars = two_named(alloc)?;
     let named = vars.as_slice();
-    assert!(rt;
-        goal_line(alloc, Goal::Satisfy, named)?.as_slice() == b"solve satisfy;\n".as_slice()
-    );
-    assert!(rt;
-        goal_line(alloc, Goal::Minimize(1), named)?.as_slice()
-            == b"solve minimize v_b_1;\n".as_slice()
-    );
-    assert!(rt;
-        goal_line(alloc, Goal::Maximize(2), named)?.as_slice()
-            == b"solve maximize a_0;\n".as_slice()
-    );
+    check_goal(&rt, alloc, Goal::Satisfy, named, b"solve satisfy;\n")?;
+    check_goal(
+        &rt,
+        alloc,
+        Goal::Minimize(1),
+        named,
+        b"solve minimize v_b_1;\n",
+    )?;
+    check_goal(
+        &rt,
+        alloc,
+        Goal::Maximize(2),
+        named,
+        b"solve maximize a_0;\n",
+    )?;
     Ok(())
 }
+
+fn check_model(
+    rt: &impl Abort,
+    alloc: Global,
+    vars: FzVars,
+    calls: Calls,
+    goal: Goal,
+    expected: &[u8],
+) -> Result<(), NoMemory> {
+    let model = Model { vars, calls, goal };
+    assert!(rt; write_model(alloc, &model)?.as_slice() == expected);
+    Ok(())
+}
+
+const WHOLE: &[u8] =
+    b"var 0..1: v_a :: output_var;\nvar -2..5: v_b_1 :: output_var;\nvar bool: a_0;\nconstraint int_ne(v_a,v_b_1);\nconstraint int_le_reif(v_a,-1,a_0);\nsolve maximize v_b_1;\n";
 
 #[test]
 fn whole_models(rt: HostRuntime) -> Result<(), Fail> {
     let alloc = rt.alloc();
-    let empty = Model {
-        vars: Row::new(alloc),
-        calls: Row::new(alloc),
-        goal: Goal::Satisfy,
-    };
-    assert!(rt; write_model(alloc, &empty)?.as_slice() == b"solve satisfy;\n".as_slice());
+    check_model(
+        &rt,
+        alloc,
+        Row::new(alloc),
+        Row::new(alloc),
+        Goal::Satisfy,
+        b"solve satisfy;\n",
+    )?;
     let mut vars = two_named(alloc)?;
     vars.push(boolean(alloc, b"a_0", false)?)?;
     let mut calls = Row::new(alloc);
     calls.push(int_ne(alloc, 0, 1)?)?;
-    let mut args = Row::new(alloc);
-    args.push(Arg::Var(0))?;
-    args.push(Arg::Int(-1))?;
-    args.push(Arg::Var(2))?;
-    calls.push(call_of(Builtin::IntLeReif, args))?;
-    let model = Model {
-        vars,
-        calls,
-        goal: Goal::Maximize(1),
-    };
-    let expected =
-        b"var 0..1: v_a :: output_var;\nvar -2..5: v_b_1 :: output_var;\nvar bool: a_0;\nconstraint int_ne(v_a,v_b_1);\nconstraint int_le_reif(v_a,-1,a_0);\nsolve maximize v_b_1;\n";
-    assert!(rt; write_model(alloc, &model)?.as_slice() == expected.as_slice());
+    calls.push(call_of_three(
+        alloc,
+        Builtin::IntLeReif,
+        Arg::Var(0),
+        Arg::Int(-1),
+        Arg::Var(2),
+    )?)?;
+    check_model(&rt, alloc, vars, calls, Goal::Maximize(1), WHOLE)?;
     Ok(())
 }

@@ -1,16 +1,17 @@
 //! The table of builtins against hand-made values, and each public function once.
 
-ghost use Rattle.std.specs.Prelude.{◌≡◌, map, IfOk};
+ghost use Rattle.std.specs.Prelude.{◌≡◌, ◌<◌, ◌^◌, map, IfOk};
+ghost use Rattle.fz_model.specs.Size.{size_of};
 ghost use Rattle.fz_model.specs.Sound.{exactly};
 
 use crate::{
-    Arg, Args, Builtin, Call, call_fits, call_holds, call_of, call_of_four, call_of_one,
-    call_of_three, call_of_two, int_ne,
+    Arg, Args, Builtin, Call, FzVar, Goal, Model, call_fits, call_holds, call_of, call_of_four,
+    call_of_one, call_of_three, call_of_two, int_ne, size,
 };
 use std::alloc::Global;
 use std::process::Abort;
 use std::test::Fail;
-use xf_num::{NoMemory, Row, Span};
+use xf_num::{Domain, NoMemory, Row, Span};
 
 /// The greatest magnitude of an integer of a model.
 const LIMIT: i128 = 85070591730234615865843651857942052863;
@@ -798,5 +799,47 @@ fn made_calls(rt: HostRuntime) -> Result<(), Fail> {
             [Arg::Var(1), Arg::Var(2), Arg::Int(3), Arg::Var(4)]
         )
     );
+    Ok(())
+}
+
+fn flag(alloc: Global) -> Result<FzVar, NoMemory> {
+    let domain = Domain::of(Span::new(0, 1).unwrap(), alloc)?;
+    Ok(FzVar {
+        name: Row::new(alloc),
+        boolean: true,
+        domain,
+        shown: false,
+    })
+}
+
+/// Two variables, and a call with five leaves.
+fn two_variables(alloc: Global) -> Result<Model, NoMemory>
+    ensures { IfOk result (λ model. size_of model < 2 ^ 64) }
+{
+    let mut vars = Row::new(alloc);
+    vars.push(flag(alloc)?)?;
+    vars.push(flag(alloc)?)?;
+    let mut members = Row::new(alloc);
+    members.extend(&[7, 7])?;
+    let range = Span::new(-3, 9).unwrap();
+    let mut calls = Row::new(alloc);
+    calls.push(call_of_three(
+        alloc,
+        Builtin::SetInReif,
+        Arg::Set(members),
+        Arg::Range(range),
+        Arg::Var(1),
+    )?)?;
+    Ok(Model {
+        vars,
+        calls,
+        goal: Goal::Satisfy,
+    })
+}
+
+#[test]
+fn sizes(rt: HostRuntime) -> Result<(), Fail> {
+    let model = two_variables(rt.alloc())?;
+    assert_eq!(rt; size(&model), 7);
     Ok(())
 }
