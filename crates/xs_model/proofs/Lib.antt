@@ -1,1 +1,3 @@
 pub mod Places
+pub mod TableLemmas
+pub mod BracketLemmas

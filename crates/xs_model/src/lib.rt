@@ -6,9 +6,11 @@
 //! the other crates cite.
 #![tactic(auto)]
 
+mod brackets;
 mod decl;
 mod expr;
 mod instance;
+mod table;
 mod words;
 
 pub use decl::{Cells, Decl, Decls};
