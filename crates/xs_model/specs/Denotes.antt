@@ -1,8 +1,8 @@
 -- Which variable a direct word denotes (XCSP3-core, "Variables" and "Arrays of variables").
-use Rattle.std.specs.Prelude.{◌≡◌, ℕ, ℤ, pos, ◌<ℤ◌, ◌+◌, ◌*◌, List, [], ◌∷◌, ◌++◌, slice_get, slice_index_or, Option, None, Some, codes}
+use Rattle.std.specs.Prelude.{◌≡◌, ℕ, pos, List, [], ◌∷◌, ◌++◌, slice_get, slice_index_or, None, Some, codes}
 use Rattle.std.specs.List.{flat_map}
 use Rattle.std.specs.Str.Parse.{IsNumeral, without_leading_sign, signed_digits_value}
-use Rattle.xs_model.specs.Names.{row_major, places_of}
+use Rattle.xs_model.specs.Names.{row_major}
 use Rattle.xs_model.specs.Outline.{Outline, cell_numbers}
 
 abbrev pub bracketed : List ℕ → List ℕ

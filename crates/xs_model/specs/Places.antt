@@ -1,8 +1,9 @@
 -- Brackets read one after another.
-use Rattle.std.specs.Prelude.{◌≡◌, ℕ, ◌+◌, ◌*◌, ℤ, pos, ◌<ℤ◌, Bool, true, not, ◌==◌, List, [], ◌∷◌, ◌++◌}
+use Rattle.std.specs.Prelude.{◌≡◌, ℕ, ◌+◌, ◌*◌, ℤ, pos, ◌<ℤ◌, Bool, true, not, ◌==◌, List, [], ◌∷◌, ◌++◌, None, Some, slice_index_or}
 use Rattle.std.specs.List.{list_all}
 use Rattle.xs_model.specs.Names.{places_of}
 use Rattle.xs_model.specs.Denotes.{bracketed, SpellsIndex}
+use Rattle.xs_model.specs.Outline.{Outline, cell_numbers, sizes_at}
 
 -- the byte `]`
 abbrev pub is_close : ℕ → Bool
@@ -32,3 +33,7 @@ SpellsFrom before (n ∷ ns) text p = (index : ℕ) × ((more : List ℕ) × (Be
 
 abbrev pub SpellsPlace : List ℤ → List ℕ → ℕ → Type 0
 SpellsPlace sizes text p = SpellsFrom 0 sizes text p
+
+-- brackets denote variable k as a cell of the declaration `at`
+abbrev pub DenotesCell : List Outline → ℕ → List ℕ → ℕ → Type 0
+DenotesCell os at text k = (place : ℕ) × (SpellsPlace (sizes_at os at) text place × (slice_index_or (cell_numbers os at) place None ≡ Some k))

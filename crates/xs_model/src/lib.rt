@@ -10,10 +10,12 @@ mod brackets;
 mod decl;
 mod expr;
 mod instance;
+mod names;
 mod table;
 mod words;
 
 pub use decl::{Cells, Decl, Decls};
 pub use expr::{Expr, Exprs, Op};
 pub use instance::{Constraint, Constraints, Instance};
+pub use names::{NameStop, Names};
 pub use words::word;

@@ -1,7 +1,7 @@
 //! A table of names in the order in which they came.
 
-ghost use Rattle.std.specs.Prelude.{◌≡◌, ◌++◌, ◌∷◌, [], ◌<◌, ℕ, length, map, slice_get, Some, IfSome, OnOk, OnErr};
-ghost use Rattle.xs_model.specs.Table.{HasName};
+ghost use Rattle.std.specs.Prelude.{◌≡◌, ◌++◌, ◌∷◌, [], ◌<◌, ℕ, length, map, slice_get, slice_index_or, Some, None, IfSome, OnOk, OnErr};
+ghost use Rattle.xs_model.specs.Table.{HasName, sizes_of, numbers_of};
 
 use indexmap::IndexMap;
 use std::alloc::Global;
@@ -18,6 +18,40 @@ pub enum Entry {
     One(u32),
     /// An array.
     Array { sizes: Ints, numbers: Numbers },
+}
+
+impl Entry {
+    /// The sizes of the array; none of a variable.
+    pub fn sizes(&self) -> &[i128]
+        ensures { result.now ≡ sizes_of self.now }
+    {
+        match self {
+            Entry::One(_) => &[],
+            Entry::Array { sizes, .. } => sizes.as_slice(),
+        }
+    }
+
+    /// The number of the cell at this place; a variable is its own cell, at place 0.
+    pub fn number(&self, place: u64) -> Option<u32>
+        ensures { result ≡ slice_index_or (numbers_of self.now) place None }
+    {
+        match self {
+            Entry::One(number) if place == 0 => Some(*number),
+            Entry::One(_) => None,
+            Entry::Array { numbers, .. } => number_at(numbers.as_slice(), place as usize),
+        }
+    }
+}
+
+// The number at this place, if there is one.
+fn number_at(numbers: &[Option<u32>], place: usize) -> Option<u32>
+    ensures { result ≡ slice_index_or numbers.now place None }
+{
+    if place < numbers.len() {
+        numbers[place]
+    } else {
+        None
+    }
 }
 
 /// Names that differ, each with what it stands for, seen as the list of these pairs.

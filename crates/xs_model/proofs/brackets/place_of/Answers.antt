@@ -1,6 +1,6 @@
-use Rattle.std.proofs.Common.{arith, rules, ◌≡◌, ◌<◌, ◌≤◌, ◌+◌, ◌*◌, ◌^◌, get_or, drop, ℕ, ℤ, pos, ◌<ℤ◌, ◌≤ℤ◌, ◌∙◌, sym, ap, subst, FitsSigned, Fits, to_z, of_z, nat_abs}
+use Rattle.std.proofs.Common.{arith, rules, ◌+◌, ◌*◌, get_or, drop, ℤ, pos, ◌<ℤ◌, ◌∙◌, sym, ap, subst, FitsSigned, nat_abs}
 use Rattle.std.proofs.lemmas.Int.{to_z-of_z, ints}
-use Rattle.std.specs.Int.{w128, w64}
+use Rattle.std.specs.Int.{w128}
 use Rattle.xs_model.specs.Names.{places_of}
 use Rattle.xs_model.specs.Places.{BeginsWith, SpellsFrom}
 use Rattle.xs_model.specs.Sound.{cell_count}

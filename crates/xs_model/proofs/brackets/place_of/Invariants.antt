@@ -1,4 +1,4 @@
-use Rattle.std.proofs.Common.{◌≡◌, ◌+◌, ◌*◌, ◌≤◌, ◌↔◌, ℕ, drop}
+use Rattle.std.proofs.Common.{◌+◌, ◌*◌, ◌≤◌, ℕ, drop}
 use Rattle.std.specs.List.{AllByRecursion}
 use Rattle.xs_model.specs.Places.{SpellsFrom, SpellsPlace}
 use Rattle.xs_model.specs.Sound.{IsSize, cell_count}

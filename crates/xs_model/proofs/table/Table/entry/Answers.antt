@@ -1,4 +1,4 @@
-use Rattle.std.proofs.Common.{◌∙◌, sym, ap, subst, slice_get, Some, map, ◌≡◌}
+use Rattle.std.proofs.Common.{sym, subst, slice_get, Some, map, ◌≡◌}
 use Rattle.xs_model.proofs.TableLemmas.{value_at}
 use Rattle.xs_model.proofs.table.Table.entry.Goals as goal
 

@@ -1,6 +1,5 @@
 use Rattle.std.proofs.Common.{◌∙◌, sym, ap, subst, slice_get, Some, map, ◌≡◌}
 use Rattle.std.specs.Prelude.{IfSome}
-use Rattle.xs_model.specs.Table.{HasName}
 use Rattle.xs_model.proofs.TableLemmas.{found_at, only_at, names_are}
 use Rattle.xs_model.proofs.table.Table.position.Goals as goal
 

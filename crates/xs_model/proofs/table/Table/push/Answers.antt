@@ -1,4 +1,4 @@
-use Rattle.std.proofs.Common.{◌∙◌, sym, ap, subst, slice_get, Some, map, ◌≡◌, ◌++◌, ◌∷◌, [], ℕ}
+use Rattle.std.proofs.Common.{◌∙◌, ap, subst, slice_get, Some, map, ◌≡◌, ◌++◌, ◌∷◌, [], ℕ}
 use Rattle.xs_model.proofs.TableLemmas.{inserted, row}
 use Rattle.xs_model.proofs.table.Table.push.Goals as goal
 
