@@ -1,3 +1,4 @@
 pub mod Shape
 pub mod Bounds
 pub mod Operands
+pub mod Worths
