@@ -30,7 +30,7 @@ pub values-are : (a : List ℤ) (es : List Expr) → values_of (map (worth a) es
 values-are a [] = refl
 values-are a (e ∷ es) = ap (λ (xs : List ℤ). val a e ∷ xs) (values-are a es)
 
-node_worth-value : (op : Op) (ws : List Worth) → (node_worth op ws).value ≡ apply op (values_of ws) (second_members ws)
+pub node_worth-value : (op : Op) (ws : List Worth) → (node_worth op ws).value ≡ apply op (values_of ws) (second_members ws)
 node_worth-value Neg ws = refl
 node_worth-value Abs ws = refl
 node_worth-value Sqr ws = refl

@@ -5,3 +5,5 @@ pub mod Layers
 pub mod Members
 pub mod Powers
 pub mod Totals
+pub mod Within
+pub mod Sound

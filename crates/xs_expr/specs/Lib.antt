@@ -2,3 +2,4 @@ pub mod Shape
 pub mod Bounds
 pub mod Operands
 pub mod Worths
+pub mod Laws
