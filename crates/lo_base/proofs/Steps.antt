@@ -3,7 +3,8 @@ use Rattle.std.proofs.Common.{◌≡◌, ◌⊎◌, ℕ, zero, suc, ◌+◌, ◌
 use Rattle.std.proofs.lemmas.Int.{ints}
 use Rattle.fz_model.specs.declared.model.Call.{Call}
 use Rattle.fz_model.specs.Meaning.{at}
-use Rattle.fz_model.specs.Fixing.{Fixes, Agree, NotOfBits, FixedByCalls}
+use Rattle.fz_model.specs.Fixing.{Fixes, Agree, NotOfBits}
+use Rattle.fz_model.proofs.Fixing.{fixed_by_calls}
 use Rattle.lo_base.specs.Item.{Item, Ranged, Boolean, Posted, made}
 use Rattle.lo_base.specs.Solved.{Meets}
 use Rattle.lo_base.specs.Stepwise.{Settles, AreBits, Stepwise, OneExtension, Joins}
@@ -12,16 +13,16 @@ use Rattle.lo_base.proofs.Solving.{made-append, meets_split}
 between : (lo v w : ℤ) → lo ≤ℤ v → v ≤ℤ lo → lo ≤ℤ w → w ≤ℤ lo → v ≡ w
 between lo v w a b c d = omega (arith, ints)
 
-settled : FixedByCalls → (k n : ℕ) (xs : List Item) (b c : List ℤ) → Settles k n xs → Agree k b c → AreBits xs b → AreBits xs c → Meets n xs b → Meets n xs c → at b k ≡ at c k
-settled fixed k n [] b c s agree t t' h h' = absurd s
-settled fixed k n (Ranged lo hi ∷ xs) b c s agree t t' h h' = elim s [
+settled : (k n : ℕ) (xs : List Item) (b c : List ℤ) → Settles k n xs → Agree k b c → AreBits xs b → AreBits xs c → Meets n xs b → Meets n xs c → at b k ≡ at c k
+settled k n [] b c s agree t t' h h' = absurd s
+settled k n (Ranged lo hi ∷ xs) b c s agree t t' h h' = elim s [
   | inl p ↦ rw p.0 (between lo (at b n) (at c n) h.0 (rw p.1 h.1) h'.0 (rw p.1 h'.1))
-  | inr r ↦ settled fixed k (n + 1) xs b c r agree t t' h.2 h'.2
+  | inr r ↦ settled k (n + 1) xs b c r agree t t' h.2 h'.2
 ]
-settled fixed k n (Boolean ∷ xs) b c s agree t t' h h' = settled fixed k (n + 1) xs b c s agree t t' h.1 h'.1
-settled fixed k n (Posted call ∷ xs) b c s agree t t' h h' = elim s [
-  | inl f ↦ fixed k call b c f agree t.0 t'.0 h.0 h'.0
-  | inr r ↦ settled fixed k n xs b c r agree t.1 t'.1 h.1 h'.1
+settled k n (Boolean ∷ xs) b c s agree t t' h h' = settled k (n + 1) xs b c s agree t t' h.1 h'.1
+settled k n (Posted call ∷ xs) b c s agree t t' h h' = elim s [
+  | inl f ↦ fixed_by_calls k call b c f agree t.0 t'.0 h.0 h'.0
+  | inr r ↦ settled k n xs b c r agree t.1 t'.1 h.1 h'.1
 ]
 
 below_or_not : (k m : ℕ) → (k < m) ⊎ (m ≤ k)
@@ -31,14 +32,14 @@ below_or_not k m = grind arith
 one_more : (m : ℕ) (b c : List ℤ) → Agree m b c → at b m ≡ at c m → Agree (suc m) b c
 one_more m b c agree e j lt = elim (below_or_not j m) [ inl l ↦ agree j l | inr l ↦ (let same : j ≡ m = omega arith in rw same e) ]
 
-up_to : FixedByCalls → (n : ℕ) (xs : List Item) (b c : List ℤ) → Stepwise n xs → Agree n b c → Meets n xs b → Meets n xs c → (m : ℕ) → m ≤ made xs → Agree (n + m) b c
-up_to fixed n xs b c s agree h h' zero le = subst (λ (k : ℕ). Agree k b c) (omega arith) agree
-up_to fixed n xs b c s agree h h' (suc m) le =
-    let earlier = up_to fixed n xs b c s agree h h' m (omega arith) in
-    subst (λ (k : ℕ). Agree k b c) (omega arith) (one_more (n + m) b c earlier (settled fixed (n + m) n xs b c (s.each (n + m) (omega arith) (omega arith)) earlier (s.bits b h) (s.bits c h') h h'))
+up_to : (n : ℕ) (xs : List Item) (b c : List ℤ) → Stepwise n xs → Agree n b c → Meets n xs b → Meets n xs c → (m : ℕ) → m ≤ made xs → Agree (n + m) b c
+up_to n xs b c s agree h h' zero le = subst (λ (k : ℕ). Agree k b c) (omega arith) agree
+up_to n xs b c s agree h h' (suc m) le =
+    let earlier = up_to n xs b c s agree h h' m (omega arith) in
+    subst (λ (k : ℕ). Agree k b c) (omega arith) (one_more (n + m) b c earlier (settled (n + m) n xs b c (s.each (n + m) (omega arith) (omega arith)) earlier (s.bits b h) (s.bits c h') h h'))
 
-pub one_extension : FixedByCalls → OneExtension
-one_extension fixed n xs b c s agree h h' = up_to fixed n xs b c s agree h h' (made xs) (omega arith)
+pub one_extension : OneExtension
+one_extension n xs b c s agree h h' = up_to n xs b c s agree h h' (made xs) (omega arith)
 
 pub bits_join : (xs ys : List Item) (b : List ℤ) → AreBits xs b → AreBits ys b → AreBits (xs ++ ys) b
 bits_join [] ys b s t = t

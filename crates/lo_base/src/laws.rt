@@ -1,11 +1,10 @@
 //! The laws of stepwise lists of items.
 
-ghost use Rattle.fz_model.specs.Fixing.{FixedByCalls};
 ghost use Rattle.lo_base.specs.Stepwise.{OneExtension, Joins};
 
 /// The values before a stepwise list of items leave its new variables one list of values at most.
 pub fn one_extension()
-    ensures { FixedByCalls → OneExtension }
+    ensures { OneExtension }
 {}
 
 /// Two stepwise lists of items in a row are one.
