@@ -9,4 +9,4 @@ mod limits;
 mod worth;
 
 pub use limits::bounds;
-pub use worth::value;
+pub use worth::{value, values_are_bounded};
