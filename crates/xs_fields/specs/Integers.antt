@@ -1,14 +1,8 @@
--- Integers, ranges and lists of them (XCSP3-core: integers, `a..b`, and the compact form `vxk` in lists of integers).
-use Rattle.std.specs.Prelude.{◌≡◌, ℕ, ◌+◌, ◌*◌, ◌<◌, ◌≤◌, ◌^◌, ◌-◌, Bool, ◌&&◌, true, nat_le, nat_lt, ℤ, pos, negsuc, nat_abs, int_le, List, [], ◌∷◌, length, Option, None, Some, if◌then◌else◌, replicate, sum_by}
+-- Integers (XCSP3-core, integers).
+use Rattle.std.specs.Prelude.{ℕ, ◌-◌, ◌^◌, Bool, ◌&&◌, nat_le, nat_lt, ℤ, nat_abs, List, length, slice_index, ◌==◌, Option, None, Some, if◌then◌else◌}
 use Rattle.std.specs.Char.{is_ascii_digit}
-use Rattle.std.specs.List.{list_all, flat_map, filter_map}
+use Rattle.std.specs.List.{list_all}
 use Rattle.std.specs.Str.Parse.{without_leading_sign, signed_digits_value}
-use Rattle.xf_num.specs.Span.{Bounds}
-use Rattle.xs_fields.specs.declared.condition.Condition.{Condition}
-use Rattle.xs_fields.specs.declared.condition.Condition.TheVariants.{Known, Nesting, Spelling, Magnitude, Naming, Counting, Fitting}
-use Rattle.xs_fields.specs.declared.integer.Run.{Run}
-use Rattle.xs_fields.specs.Conditions.{all_meet, meets}
-use Rattle.xs_fields.specs.Words.{parts, is_byte, words_of}
 
 -- digits, with an optional `-` or `+` before them
 abbrev pub is_integer : List ℕ → Bool
@@ -24,3 +18,17 @@ magnitudes = 2 ^ 126 - 1
 
 abbrev pub is_small : ℤ → Bool
 is_small z = nat_le (nat_abs z) magnitudes
+
+-- where the number begins: behind a `+`
+abbrev pub number_place : List ℕ → ℕ
+number_place word = if slice_index word 0 == 43 then 1 else 0
+
+-- the value of an integer, where it is small
+abbrev pub small_value_of : List ℕ → Option ℤ
+small_value_of word = if is_small (signed_digits_value 10 word) then Some (signed_digits_value 10 word) else None
+
+abbrev pub is_minus : List ℕ → Bool
+is_minus word = slice_index word 0 == 45
+
+abbrev pub is_zero : ℕ → Bool
+is_zero n = n == 0

@@ -1,8 +1,11 @@
 //! Field texts of XCSP3-core.
 #![tactic(auto)]
 
+mod compare;
 mod condition;
 mod integer;
+mod pieces;
+mod runs;
 mod words;
 
 pub use condition::{Condition, earlier};

@@ -29,7 +29,8 @@ fn part_end(bytes: &[u8], stop: u8) -> Option<usize>
     bytes.iter().position(|byte| *byte == stop)
 }
 
-fn from(bytes: &[u8], at: usize) -> &[u8]
+/// The bytes from a place on.
+pub fn from(bytes: &[u8], at: usize) -> &[u8]
     requires { at ≤ length bytes.now }
     ensures { result.now ≡ drop at bytes.now }
 {
