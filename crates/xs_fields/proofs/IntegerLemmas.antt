@@ -1,5 +1,5 @@
 -- The number that is read at the front of an integer is the integer.
-use Rattle.std.proofs.Common.{◌≡◌, ℕ, suc, ◌+◌, ◌<◌, ◌≤◌, ◌==◌, Bool, true, false, ◌&&◌, cond, nat_le, nat_lt, List, [], ◌∷◌, length, drop, get_or, refl, ap, sym, subst, ◌∙◌, arith, rules, ℤ, pos, neg_ℤ, Result, Err, IsErrOf}
+use Rattle.std.proofs.Common.{◌≡◌, ℕ, suc, ◌+◌, ◌<◌, ◌≤◌, ◌==◌, Bool, true, false, ◌&&◌, cond, nat_le, nat_lt, List, [], ◌∷◌, length, drop, get_or, refl, ap, sym, subst, ◌∙◌, arith, rules, ℤ, pos, neg_ℤ, Option, Some, None, Result, Err, IsErrOf}
 use Rattle.xf_text.specs.declared.number.NumberStop.{NumberStop}
 use Rattle.xf_text.specs.declared.number.NumberStop.TheVariants.{NotNumber, Range}
 use Rattle.std.specs.Char.{is_ascii_digit}
@@ -8,7 +8,7 @@ use Rattle.std.specs.Str.Parse.{digits_value, without_leading_sign, signed_digit
 use Rattle.std.proofs.lemmas.List.Sums.{take_while-cons}
 use borrow.Author.Tests.{ltb-true, leb-true, eqb-true, ne_eqb}
 use Rattle.xf_text.specs.Number.{IsNumberAt, number_at, digits_at}
-use Rattle.xs_fields.specs.Integers.{is_integer, number_place}
+use Rattle.xs_fields.specs.Integers.{integer_of, is_integer, is_small, number_place, small_value_of}
 
 pub and_left : (a b : Bool) → (a && b) ≡ true → a ≡ true
 and_left true b h = refl
@@ -68,3 +68,11 @@ is_read (b ∷ bs) h = minus (b == 45) refl
 pub not_stopped : (k : NumberStop) (N F : Type 0) → (IsErrOf {T = ℤ × ℕ} (Err k) NotNumber → N → ⊥) → (IsErrOf {T = ℤ × ℕ} (Err k) Range → F → ⊥) → N → F → ⊥
 not_stopped NotNumber N F g h n f = g refl n
 not_stopped Range N F g h n f = h refl f
+
+-- a small value that was read is that of the integer
+pub integer_small : (word : List ℕ) (v : ℤ) → is_integer word ≡ true → Some v ≡ small_value_of word → integer_of word ≡ Some v
+integer_small word v h e = ap (λ (t : Bool). cond t (Some (signed_digits_value 10 word)) None) h ∙ by (is_small (signed_digits_value 10 word)) e
+  where
+    by : (t : Bool) → Some v ≡ cond t (Some (signed_digits_value 10 word)) None → Some (signed_digits_value 10 word) ≡ Some v
+    by true e = sym e
+    by false e = cc

@@ -1,6 +1,9 @@
 -- Lists of integers, word after word.
 use Rattle.std.proofs.Common.{◌≡◌, ℕ, ◌+◌, ◌<◌, ◌≤◌, ◌++◌, Bool, true, false, List, [], ◌∷◌, Option, None, Some, length, ℤ, refl, ap, sym, subst, ◌∙◌, arith, rules, length-append, append_assoc, append-nil}
 use Rattle.std.specs.List.{flat_map}
+use Rattle.xs_fields.specs.declared.condition.Condition.TheVariants.{Spelling}
+use Rattle.xs_fields.specs.Conditions.{first_missed}
+use Rattle.xs_fields.specs.Sizes.{front_meets}
 use Rattle.xs_fields.specs.Lists.{piece_in, run_in}
 use Rattle.xs_fields.specs.Words.{is_byte, parts}
 use Rattle.xs_fields.proofs.PartLemmas.{parts_front}
@@ -13,6 +16,15 @@ not_run v k bytes = ap (λ ps. run_in (v ∷ k ∷ ps)) (parts_front (is_byte 12
 pub not_piece : (a m b bytes : List ℕ) → piece_in (a ∷ m ∷ b ∷ parts (is_byte 46) bytes) ≡ None
 not_piece a [] b bytes = ap (λ ps. piece_in (a ∷ [] ∷ b ∷ ps)) (parts_front (is_byte 46) bytes)
 not_piece a (x ∷ xs) b bytes = ap (λ ps. piece_in (a ∷ (x ∷ xs) ∷ b ∷ ps)) (parts_front (is_byte 46) bytes)
+
+-- brackets with nothing before them are spelt right
+pub front_right : (front bytes : List ℕ) → length front ≡ 0 → None ≡ first_missed (front_meets (front ∷ parts (is_byte 91) bytes))
+front_right [] bytes none = sym (ap (λ ps. first_missed (front_meets ([] ∷ ps))) (parts_front (is_byte 91) bytes))
+front_right (b ∷ bs) bytes none = absurd (omega arith)
+
+pub front_wrong : (front bytes : List ℕ) → 0 < length front → Some Spelling ≡ first_missed (front_meets (front ∷ parts (is_byte 91) bytes))
+front_wrong [] bytes some = absurd (omega arith)
+front_wrong (b ∷ bs) bytes some = refl
 
 -- the members of one word more
 pub members_more : {A : Type 0} (members : List ℕ → List A) (words ws : List (List ℕ)) (w : List ℕ) (done all : List A) → words ≡ w ∷ ws → done ++ flat_map members words ≡ all → (done ++ members w) ++ flat_map members ws ≡ all

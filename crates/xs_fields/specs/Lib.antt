@@ -2,3 +2,4 @@ pub mod Conditions
 pub mod Words
 pub mod Integers
 pub mod Lists
+pub mod Sizes

@@ -1,5 +1,5 @@
 -- How a text is cut into words.
-use Rattle.std.specs.Prelude.{ℕ, Bool, ◌||◌, nat_lt, nat_eq, List, [], ◌∷◌, length, Option, None, Some, if◌then◌else◌}
+use Rattle.std.specs.Prelude.{ℕ, ◌+◌, Bool, ◌||◌, nat_lt, nat_eq, List, [], ◌∷◌, length, Option, None, Some, if◌then◌else◌}
 use Rattle.std.specs.List.{filter}
 
 -- space, tab, CR and LF
@@ -29,3 +29,8 @@ words_of text = filter is_nonempty (parts is_space text)
 abbrev pub parts_behind : (ℕ → Bool) → Option (List ℕ) → List (List ℕ)
 parts_behind test None = []
 parts_behind test (Some bytes) = parts test bytes
+
+-- how much is left to cut
+abbrev pub left_len : Option (List ℕ) → ℕ
+left_len None = 0
+left_len (Some bytes) = length bytes + 1

@@ -6,6 +6,7 @@ mod condition;
 mod integer;
 mod pieces;
 mod runs;
+mod sizes;
 mod words;
 
 pub use condition::{Condition, earlier};
