@@ -1,13 +1,13 @@
 -- The number that is read at the front of an integer is the integer.
-use Rattle.std.proofs.Common.{◌≡◌, ℕ, suc, ◌+◌, ◌<◌, ◌≤◌, ◌==◌, Bool, true, false, ◌&&◌, cond, nat_le, nat_lt, List, [], ◌∷◌, length, drop, get_or, refl, ap, sym, subst, ◌∙◌, arith, rules, ℤ, pos, neg_ℤ, Option, Some, None, Result, Err, IsErrOf}
+use Rattle.std.proofs.Common.{◌≡◌, ℕ, ◌<◌, ◌≤◌, ◌==◌, Bool, true, false, ◌&&◌, cond, nat_le, nat_lt, List, [], ◌∷◌, length, drop, get_or, refl, ap, sym, subst, ◌∙◌, arith, ℤ, pos, neg_ℤ, Some, None, Err, IsErrOf}
 use Rattle.xf_text.specs.declared.number.NumberStop.{NumberStop}
 use Rattle.xf_text.specs.declared.number.NumberStop.TheVariants.{NotNumber, Range}
 use Rattle.std.specs.Char.{is_ascii_digit}
 use Rattle.std.specs.List.{list_all, take_while}
-use Rattle.std.specs.Str.Parse.{digits_value, without_leading_sign, signed_digits_value}
+use Rattle.std.specs.Str.Parse.{digits_value, signed_digits_value}
 use Rattle.std.proofs.lemmas.List.Sums.{take_while-cons}
 use borrow.Author.Tests.{ltb-true, leb-true, eqb-true, ne_eqb}
-use Rattle.xf_text.specs.Number.{IsNumberAt, number_at, digits_at}
+use Rattle.xf_text.specs.Number.{IsNumberAt, number_at}
 use Rattle.xs_fields.specs.Integers.{integer_of, is_integer, is_small, number_place, small_value_of}
 
 pub and_left : (a b : Bool) → (a && b) ≡ true → a ≡ true
@@ -22,8 +22,8 @@ take_all_digits : (bs : List ℕ) → list_all is_ascii_digit bs ≡ true → ta
 take_all_digits [] h = refl
 take_all_digits (c ∷ cs) h =
     take_while-cons is_ascii_digit c cs
-        ∙ ap (λ (v : Bool). cond v (c ∷ take_while is_ascii_digit cs) []) (and_left (is_ascii_digit c) (list_all is_ascii_digit cs) h)
-        ∙ ap (λ cs. c ∷ cs) (take_all_digits cs (and_right (is_ascii_digit c) (list_all is_ascii_digit cs) h))
+    ∙ ap (λ (v : Bool). cond v (c ∷ take_while is_ascii_digit cs) []) (and_left (is_ascii_digit c) (list_all is_ascii_digit cs) h)
+    ∙ ap (λ cs. c ∷ cs) (take_all_digits cs (and_right (is_ascii_digit c) (list_all is_ascii_digit cs) h))
 
 -- no minus before digits
 digit_first : (bs : List ℕ) → list_all is_ascii_digit bs ≡ true → (get_or bs 0 0 == 45) ≡ false
@@ -60,6 +60,7 @@ is_read (b ∷ bs) h = minus (b == 45) refl
     plus : (v : Bool) → (b == 45) ≡ false → (b == 43) ≡ v → IsRead (b ∷ bs)
     plus true e f = read_plus b bs (eqb-true _ _ f) h
     plus false e f = read_plain b bs e f h
+
     minus : (v : Bool) → (b == 45) ≡ v → IsRead (b ∷ bs)
     minus true e = read_minus b bs (eqb-true _ _ e) h
     minus false e = plus (b == 43) e refl

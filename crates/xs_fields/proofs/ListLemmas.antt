@@ -1,5 +1,5 @@
 -- Lists of integers, word after word.
-use Rattle.std.proofs.Common.{◌≡◌, ℕ, ◌+◌, ◌<◌, ◌≤◌, ◌++◌, Bool, true, false, List, [], ◌∷◌, Option, None, Some, length, ℤ, refl, ap, sym, subst, ◌∙◌, arith, rules, length-append, append_assoc, append-nil}
+use Rattle.std.proofs.Common.{◌≡◌, ℕ, ◌+◌, ◌<◌, ◌++◌, List, [], ◌∷◌, None, Some, length, refl, ap, sym, ◌∙◌, arith, length-append, append_assoc, append-nil}
 use Rattle.std.specs.List.{flat_map}
 use Rattle.xs_fields.specs.declared.condition.Condition.TheVariants.{Spelling}
 use Rattle.xs_fields.specs.Conditions.{first_missed}

@@ -1,5 +1,5 @@
 -- How the first missed conditions of two parts join to that of the whole.
-use Rattle.std.proofs.Common.{◌≡◌, ℕ, ◌<◌, ◌≤◌, Bool, true, false, not, ◌&&◌, nat_le, nat_lt, cond, if◌then◌else◌, List, [], ◌∷◌, Option, None, Some, IfSome, refl, ap, sym, subst, ◌∙◌, arith, rules}
+use Rattle.std.proofs.Common.{◌≡◌, ℕ, ◌<◌, Bool, true, false, not, ◌&&◌, nat_le, nat_lt, cond, if◌then◌else◌, List, [], ◌∷◌, Option, None, Some, IfSome, refl, ap, sym, ◌∙◌, arith}
 use Rattle.std.specs.List.{find, list_all}
 use borrow.Author.Tests.{leb-true, leb-false, ltb-true, le-leb, lt-leb}
 use Rattle.xs_fields.specs.declared.condition.Condition.{Condition}
@@ -75,9 +75,9 @@ earlier_assoc (Some a) (Some b) (Some c) = earlier_three a b c
 pub missed_more : (test : List ℕ → Condition → Bool) (missed judged all : Option Condition) (words ws : List (List ℕ)) (w : List ℕ) → words ≡ w ∷ ws → judged ≡ first_missed (test w) → earlier_of missed (first_missed (all_meet test words)) ≡ all → earlier_of (earlier_of missed judged) (first_missed (all_meet test ws)) ≡ all
 missed_more test missed judged all words ws w cut is so_far =
     earlier_assoc missed judged (first_missed (all_meet test ws))
-        ∙ ap (λ j. earlier_of missed (earlier_of j (first_missed (all_meet test ws)))) is
-        ∙ ap (earlier_of missed) (sym (first_missed-words test w ws) ∙ ap (λ ws. first_missed (all_meet test ws)) (sym cut))
-        ∙ so_far
+    ∙ ap (λ j. earlier_of missed (earlier_of j (first_missed (all_meet test ws)))) is
+    ∙ ap (earlier_of missed) (sym (first_missed-words test w ws) ∙ ap (λ ws. first_missed (all_meet test ws)) (sym cut))
+    ∙ so_far
 
 pub missed_all : (missed all : Option Condition) (test : List ℕ → Condition → Bool) (words : List (List ℕ)) → words ≡ [] → earlier_of missed (first_missed (all_meet test words)) ≡ all → missed ≡ all
 missed_all missed all test words none so_far = sym (no_more missed) ∙ ap (λ ws. earlier_of missed (first_missed (all_meet test ws))) (sym none) ∙ so_far

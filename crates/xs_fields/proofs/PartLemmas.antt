@@ -1,10 +1,10 @@
 -- How the parts and the words of a text begin.
-use Rattle.std.proofs.Common.{◌≡◌, ◌≢◌, ℕ, suc, ◌+◌, ◌-◌, ◌<◌, ◌≤◌, Bool, true, false, not, cond, if◌then◌else◌, nat_lt, Option, None, Some, List, [], ◌∷◌, ◌++◌, length, take, drop, get_or, drop-cons, refl, ap, sym, subst, ◌∙◌, arith, rules}
-use Rattle.std.specs.List.{position, position_or_len, prefix_len, filter}
+use Rattle.std.proofs.Common.{◌≡◌, ℕ, suc, ◌+◌, ◌<◌, Bool, true, false, not, cond, if◌then◌else◌, nat_lt, None, Some, List, [], ◌∷◌, length, take, drop, get_or, drop-cons, refl, ap, sym, subst, ◌∙◌, arith}
+use Rattle.std.specs.List.{position, position_or_len, filter}
 use Rattle.std.proofs.lemmas.List.{take_all, drop_all, length-take-le, get_or-drop}
-use Rattle.std.proofs.lemmas.List.Sums.{prefix_len-le-length, prefix_len_stops, prefix_len_passes}
+use Rattle.std.proofs.lemmas.List.Sums.{prefix_len-le-length, prefix_len_stops}
 use borrow.Author.Tests.{ltb-true, ltb-false, lt-ltb, not-true, not-false}
-use Rattle.xs_fields.specs.Words.{is_space, parts, parts_behind, onto_first, words_of, is_nonempty}
+use Rattle.xs_fields.specs.Words.{is_space, parts, onto_first, words_of, is_nonempty}
 
 -- what the parts are behind the first, from the bytes behind it on
 abbrev pub later_parts : (ℕ → Bool) → List ℕ → List (List ℕ)

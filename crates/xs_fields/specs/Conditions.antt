@@ -1,6 +1,6 @@
 -- The conditions on a unit of an instance, in the order in which they are asked (the fault of a unit is its first
 -- missed condition).
-use Rattle.std.specs.Prelude.{◌≡◌, ℕ, Bool, true, false, not, ◌&&◌, nat_le, List, [], ◌∷◌, Option, None, Some, Result, Ok, Err, if◌then◌else◌}
+use Rattle.std.specs.Prelude.{◌≡◌, ℕ, Bool, true, false, not, nat_le, List, [], ◌∷◌, Option, None, Some, Result, Ok, Err, if◌then◌else◌}
 use Rattle.std.specs.List.{find, list_all}
 use Rattle.xf_text.specs.declared.fault.FieldStop.{FieldStop}
 use Rattle.xf_text.specs.declared.fault.FieldStop.TheVariants.{Refused, Memory}

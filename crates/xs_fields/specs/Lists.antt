@@ -1,6 +1,6 @@
 -- Lists of integers (XCSP3-core: integers and the compact form `vxk`), domain texts (integers and ranges `a..b`) and
 -- the sizes of an array (`[n][m]`).
-use Rattle.std.specs.Prelude.{ℕ, Bool, true, ◌&&◌, nat_le, ℤ, pos, int_le, nat_abs, List, [], ◌∷◌, length, map, Option, None, Some, if◌then◌else◌, replicate, Result, Ok, Err}
+use Rattle.std.specs.Prelude.{ℕ, Bool, true, ◌&&◌, nat_le, ℤ, pos, int_le, nat_abs, List, [], ◌∷◌, length, Option, None, Some, if◌then◌else◌, replicate, Result, Ok, Err}
 use Rattle.std.specs.List.{flat_map}
 use Rattle.std.specs.Option.{option_map}
 use Rattle.xf_num.specs.Span.{Bounds}

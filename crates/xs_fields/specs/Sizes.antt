@@ -11,7 +11,6 @@ use Rattle.xs_fields.specs.declared.condition.Condition.TheVariants.{Spelling}
 abbrev pub inner_of : List ℕ → Option (List ℕ)
 inner_of part = if ends_with nat_eq part (codes "]") then Some (take (length part - 1) part) else None
 
-
 -- the parts behind each `[`
 abbrev pub brackets_of : List ℕ → List (List ℕ)
 brackets_of text = drop 1 (parts (is_byte 91) text)

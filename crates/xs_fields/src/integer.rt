@@ -3,7 +3,7 @@ ghost use Rattle.std.specs.Int.{w128};
 ghost use Rattle.std.specs.Char.{is_ascii_digit};
 ghost use Rattle.std.specs.List.{list_all};
 ghost use Rattle.std.specs.Str.Parse.{digits_value, signed_digits_value, without_leading_sign};
-ghost use Rattle.xs_fields.specs.Conditions.{judged};
+ghost use Rattle.xs_fields.specs.Conditions.{first_missed, judged, meets};
 ghost use Rattle.xs_fields.specs.Integers.{integer_of, is_integer, is_small, number_place, small_value_of};
 
 use crate::condition::Condition;
@@ -71,19 +71,13 @@ pub fn small_value(word: &[u8]) -> Option<i128>
     ensures { result ≡ small_value_of word.now }
 {
     match wide_value(word) {
-        Some(value) => {
-            if is_small(value) {
-                Some(value)
-            } else {
-                None
-            }
-        }
+        Some(value) => { if is_small(value) { Some(value) } else { None } }
         None => None,
     }
 }
 
 /// The integer that a word spells, or the first of `Spelling` and `Magnitude` that it misses.
-pub fn integer(word: &[u8]) -> Result<i128, Condition>
+pub fn read_integer(word: &[u8]) -> Result<i128, Condition>
     ensures { result ≡ judged is_small (integer_of word.now) }
 {
     if !is_integer(word) {
@@ -93,4 +87,11 @@ pub fn integer(word: &[u8]) -> Result<i128, Condition>
         Some(value) => Ok(value),
         None => Err(Condition::Magnitude),
     }
+}
+
+/// The first of `Spelling` and `Magnitude` that the text of one integer misses.
+pub fn judge_integer(text: &[u8]) -> Option<Condition>
+    ensures { result ≡ first_missed (meets is_small (integer_of text.now)) }
+{
+    read_integer(text).err()
 }

@@ -7,7 +7,7 @@ ghost use Rattle.xs_fields.specs.Words.{is_byte, parts};
 
 use crate::compare::at_most;
 use crate::condition::{Condition, earlier};
-use crate::integer::{integer, is_integer, small_value};
+use crate::integer::{is_integer, read_integer, small_value};
 use crate::words::{cut, next_word};
 use std::alloc::Global;
 use xf_num::{NoMemory, Row, Span, Spans};
@@ -42,7 +42,7 @@ pub fn range(low: &[u8], high: &[u8]) -> Result<Span, Condition>
 fn single(word: &[u8]) -> Result<Span, Condition>
     ensures { result ≡ judged has_small_ends (option_map point (integer_of word.now)) }
 {
-    match integer(word) {
+    match read_integer(word) {
         Ok(value) => match Span::new(value, value) {
             Some(span) => Ok(span),
             None => Err(Condition::Spelling),

@@ -5,7 +5,7 @@ ghost use Rattle.xs_fields.specs.Lists.{copies, count_meets, once, int_words_mee
 
 use crate::compare::at_most;
 use crate::condition::{Condition, earlier};
-use crate::integer::{integer, is_integer, small_value};
+use crate::integer::{is_integer, read_integer, small_value};
 use crate::words::{cut, next_word};
 use std::alloc::Global;
 use xf_num::{Ints, NoMemory, Row};
@@ -35,7 +35,7 @@ fn copies(value: &[u8], times: &[u8]) -> Result<Run, Condition>
 fn once(word: &[u8]) -> Result<Run, Condition>
     ensures { result ≡ judged is_small_run (once (integer_of word.now)) }
 {
-    match integer(word) {
+    match read_integer(word) {
         Ok(value) => Ok(Run { value, times: 1 }),
         Err(missed) => Err(missed),
     }

@@ -6,7 +6,7 @@ ghost use Rattle.xs_fields.specs.Sizes.{front_meets, inner_of, size_list, size_m
 ghost use Rattle.xs_fields.specs.Words.{is_byte, parts_behind};
 
 use crate::condition::{Condition, earlier};
-use crate::integer::integer;
+use crate::integer::read_integer;
 use crate::words::cut;
 use std::alloc::Global;
 use xf_num::{Ints, NoMemory, Row};
@@ -28,7 +28,7 @@ fn read_size(part: &[u8]) -> Result<i128, Condition>
     ensures { result ≡ judged is_small (size_of part.now) }
 {
     match inner(part) {
-        Some(text) => integer(text),
+        Some(text) => read_integer(text),
         None => Err(Condition::Spelling),
     }
 }

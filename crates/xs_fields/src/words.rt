@@ -1,4 +1,4 @@
-ghost use Rattle.std.specs.Prelude.{◌≡◌, ◌<◌, ◌≤◌, ◌∷◌, [], false, not, drop, length, slice_index, position, IfSome, MatchOption};
+ghost use Rattle.std.specs.Prelude.{◌≡◌, ◌<◌, ◌≤◌, ◌∷◌, [], false, not, drop, length, slice_index, position, ◌↔◌, IfSome, IsTrue, MatchOption};
 ghost use Rattle.std.specs.Option.{option_map};
 ghost use Rattle.xs_fields.specs.Words.{is_space, is_byte, parts, parts_behind, words_of};
 
@@ -70,4 +70,11 @@ pub fn next_word(bytes: &[u8]) -> Option<(&[u8], &[u8])>
         Some(start) => Some(front_word(from(bytes, start))),
         None => None,
     }
+}
+
+/// Whether a text has no word: it is whitespace alone.
+pub fn is_blank(text: &[u8]) -> bool
+    ensures { IsTrue result ↔ (words_of text.now ≡ []) }
+{
+    next_word(text).is_none()
 }

@@ -1,4 +1,4 @@
-use Rattle.std.proofs.Common.{◌≡◌, ◌≢◌, ◌==◌, ◌∷◌, false, ap, sym, ◌∙◌, suc, drop, get_or}
+use Rattle.std.proofs.Common.{◌≡◌, ◌==◌, ◌∷◌, false, ap, sym, ◌∙◌, suc, drop, get_or}
 use Rattle.std.specs.Str.Parse.{digits_value}
 use Rattle.xs_fields.proofs.CompareLemmas.{digits_from, digit_there, not_zero_first}
 use Rattle.xs_fields.proofs.compare.are_zeros.Goals as goal

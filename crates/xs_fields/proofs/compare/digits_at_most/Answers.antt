@@ -1,4 +1,4 @@
-use Rattle.std.proofs.Common.{◌≡◌, ◌-◌, ap, not, arith, drop, length, length-drop}
+use Rattle.std.proofs.Common.{◌-◌, ap, not, arith, length, length-drop}
 use Rattle.xs_fields.proofs.CompareLemmas.{right_some, right_none, left_some, left_none}
 use Rattle.xs_fields.proofs.compare.digits_at_most.Goals as goal
 

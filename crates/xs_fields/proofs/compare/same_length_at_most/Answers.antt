@@ -13,5 +13,5 @@ returns-then-a-i c =
     let same : length (drop (suc i) a) ≡ length (drop (suc i) b) = omega (arith, c.requires.same, length-drop (suc i) a, length-drop (suc i) b) in
     let decided = differs n (get_or a i 0) (get_or b i 0) (drop (suc i) a) (drop (suc i) b) c.if-a-i.true (digit_there i a c.loop-i-test.true c.requires.left) (digit_there i b in_b c.requires.right) same (all_drop (suc i) a c.requires.left) (all_drop (suc i) b c.requires.right) in
     decided
-        ∙ ap (λ m. nat_le m (digits_value_after 10 n (get_or b i 0 ∷ drop (suc i) b))) (sym (digits_from n a i c.loop-i-test.true) ∙ c.loop-i.invariant.1)
-        ∙ ap (λ m. nat_le (digits_value 10 a) m) (sym (digits_from n b i in_b) ∙ c.loop-i.invariant.2)
+    ∙ ap (λ m. nat_le m (digits_value_after 10 n (get_or b i 0 ∷ drop (suc i) b))) (sym (digits_from n a i c.loop-i-test.true) ∙ c.loop-i.invariant.1)
+    ∙ ap (λ m. nat_le (digits_value 10 a) m) (sym (digits_from n b i in_b) ∙ c.loop-i.invariant.2)

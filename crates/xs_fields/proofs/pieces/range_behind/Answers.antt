@@ -12,7 +12,7 @@ returns-in-Some-more c =
     let middle = c.cut.result.0.now in
     let high = c.cut-in-Some.result.0.now in
     let first : parts (is_byte 46) c.args.behind.now ≡ middle ∷ parts (is_byte 46) c.in-Some.high.now =
-        c.cut.ensures.value ∙ ap (λ (o : Option (Bor (List ℕ))). middle ∷ parts_behind (is_byte 46) (option_map (λ x. x.now) o)) c.in-Some.is in
+    c.cut.ensures.value ∙ ap (λ (o : Option (Bor (List ℕ))). middle ∷ parts_behind (is_byte 46) (option_map (λ x. x.now) o)) c.in-Some.is in
     let second : parts (is_byte 46) c.in-Some.high.now ≡ high ∷ parts (is_byte 46) c.in-Some-more.field-0.now =
-        c.cut-in-Some.ensures.value ∙ ap (λ (o : Option (Bor (List ℕ))). high ∷ parts_behind (is_byte 46) (option_map (λ x. x.now) o)) c.in-Some-more.is in
+    c.cut-in-Some.ensures.value ∙ ap (λ (o : Option (Bor (List ℕ))). high ∷ parts_behind (is_byte 46) (option_map (λ x. x.now) o)) c.in-Some-more.is in
     sym (ap (judged has_small_ends) (ap (λ ps. piece_in (low ∷ ps)) (first ∙ ap (λ ps. middle ∷ ps) second) ∙ not_piece low middle high c.in-Some-more.field-0.now))

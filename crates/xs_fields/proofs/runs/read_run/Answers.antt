@@ -11,7 +11,7 @@ returns-in-Some-more c =
     let value = c.cut.result.0.now in
     let times = c.cut-in-Some.result.0.now in
     let first : parts (is_byte 120) c.args.word.now ≡ value ∷ parts (is_byte 120) c.in-Some.behind.now =
-        c.cut.ensures.value ∙ ap (λ (o : Option (Bor (List ℕ))). value ∷ parts_behind (is_byte 120) (option_map (λ x. x.now) o)) c.in-Some.is in
+    c.cut.ensures.value ∙ ap (λ (o : Option (Bor (List ℕ))). value ∷ parts_behind (is_byte 120) (option_map (λ x. x.now) o)) c.in-Some.is in
     let second : parts (is_byte 120) c.in-Some.behind.now ≡ times ∷ parts (is_byte 120) c.in-Some-more.field-0.now =
-        c.cut-in-Some.ensures.value ∙ ap (λ (o : Option (Bor (List ℕ))). times ∷ parts_behind (is_byte 120) (option_map (λ x. x.now) o)) c.in-Some-more.is in
+    c.cut-in-Some.ensures.value ∙ ap (λ (o : Option (Bor (List ℕ))). times ∷ parts_behind (is_byte 120) (option_map (λ x. x.now) o)) c.in-Some-more.is in
     sym (ap (judged is_small_run) (ap run_in (first ∙ ap (λ ps. value ∷ ps) second) ∙ not_run value times c.in-Some-more.field-0.now))

@@ -1,4 +1,4 @@
-use Rattle.std.proofs.Common.{◌∷◌, drop, get_or, sym, ap, ◌∙◌}
+use Rattle.std.proofs.Common.{get_or, sym, ap, ◌∙◌}
 use Rattle.xs_fields.specs.Words.{is_space, words_of}
 use Rattle.xs_fields.proofs.PartLemmas.{words_past_first, words_none, word_begins}
 use Rattle.xs_fields.proofs.words.next_word.Goals as goal
