@@ -1,0 +1,9 @@
+pub mod MarkLemmas
+pub mod CloseLemmas
+pub mod TakeLemmas
+pub mod ReadLemmas
+pub mod Alone
+pub mod Unique
+pub mod TagLemmas
+pub mod Exact
+pub mod DistinctLemmas

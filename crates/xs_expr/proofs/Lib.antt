@@ -1,0 +1,4 @@
+pub mod Every
+pub mod Exponents
+pub mod Gathered
+pub mod Layers
