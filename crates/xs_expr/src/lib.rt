@@ -6,5 +6,7 @@
 #![tactic(auto)]
 
 mod limits;
+mod worth;
 
 pub use limits::bounds;
+pub use worth::value;
