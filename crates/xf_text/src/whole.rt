@@ -1,6 +1,6 @@
 //! Whole files are read, and whole texts written.
 
-ghost use Rattle.std.specs.Prelude.{◌≡◌, ◌⊎◌, ℕ, ◌+◌, ◌<◌, ◌≤◌, true, false, IfOk, OnOk, OnErr, IfSome, IsErrOf, length, vec_len, []};
+ghost use Rattle.std.specs.Prelude.{◌≡◌, ◌⊎◌, ℕ, ◌+◌, ◌<◌, ◌≤◌, true, false, IfOk, OnOk, OnErr, IfSome, IsSome, OnSome, IsErrOf, length, vec_len, []};
 ghost use Rattle.xf_text.specs.Outside.{Rose, bytes_at, Appended, AppendedFront, Taken, Took, TookAtMost};
 ghost use Rattle.xf_text.specs.declared.whole.ReadStop.TheVariants.{Failed as FailedRead, Memory};
 
@@ -95,7 +95,7 @@ fn take_part<'a, S: Shelf>(files: &mut S, room: &'a mut [u8]) -> Result<&'a [u8]
 /// Reads the named file to its end.
 ///
 /// `Long` comes exactly where `MAX_BYTES + 1` bytes were taken, `Failed` only where the count of faults rose in
-/// this call.
+/// this call. Where the files are told, a file of which bytes were taken is one of them.
 pub fn read_file<S: Shelf>(alloc: Global, files: &mut S, name: &str) -> Result<Vec<u8>, ReadStop>
     requires { S.may_ask files.old name.now ≡ true }
     ensures files { S.files files.new ≡ S.files files.old }
@@ -103,6 +103,8 @@ pub fn read_file<S: Shelf>(alloc: Global, files: &mut S, name: &str) -> Result<V
     ensures count { S.faults files.old ≤ S.faults files.new }
     ensures bytes { IfOk result (λ v. IfSome (bytes_at (S.files files.old) name.now) (λ bytes. v.items ≡ bytes)) }
     ensures short { IfOk result (λ v. length v.items ≤ MAX_BYTES) }
+    ensures there { IfOk result (λ _. OnSome (S.files files.old) (IsSome (bytes_at (S.files files.old) name.now))) }
+    ensures long_there { IsErrOf result ReadStop.Long → OnSome (S.files files.old) (IsSome (bytes_at (S.files files.old) name.now)) }
     ensures end { IfOk result (λ v. Took (bytes_at (S.files files.old) name.now) (S.left files.new) (length v.items)) }
     ensures long { IsErrOf result ReadStop.Long → Took (bytes_at (S.files files.old) name.now) (S.left files.new) (MAX_BYTES + 1) }
     ensures memory { IsErrOf result ReadStop.Memory → TookAtMost (bytes_at (S.files files.old) name.now) (S.left files.new) MAX_BYTES }
