@@ -1,5 +1,5 @@
 -- Sums and products at one value of each variable.
-use Rattle.std.proofs.Common.{◌≡◌, ℕ, suc, ◌+◌, ◌<◌, ◌≤◌, min, ℤ, pos, ◌+ℤ◌, ◌*ℤ◌, ◌≤ℤ◌, Bool as Truth, true, false, cond, List, [], ◌∷◌, length, map, drop, get_or, refl, ap, sym, subst, ◌∙◌, arith, FitsSigned, to_z, of_z, to_z-of_z, ◌⊎◌, inl, inr, ◌↔◌}
+use Rattle.std.proofs.Common.{◌≡◌, ℕ, ◌+◌, ◌<◌, ◌≤◌, min, ℤ, pos, ◌+ℤ◌, ◌*ℤ◌, Bool as Truth, true, false, cond, List, [], ◌∷◌, length, map, drop, get_or, refl, ap, sym, subst, ◌∙◌, arith, FitsSigned, to_z, of_z, to_z-of_z, ◌⊎◌, inl, inr, ◌↔◌}
 use Rattle.std.proofs.lemmas.Int.{ints}
 use Rattle.std.proofs.lemmas.List.{drop_more, drop_all}
 use Rattle.std.proofs.Math.ListN.{get_or-map}
@@ -61,7 +61,7 @@ sums_fit b sum (c ∷ cs) (x ∷ xs) h =
     let s : List Bounds = map exactly b in
     let p : ℤ = number b c *ℤ number b x in
     let g : IsSmall (exactly p) × IsSmall (exactly (sum +ℤ p)) × SumsFit (exactly (sum +ℤ p)) (map (ends s) cs) (map (ends s) xs) =
-        subst (λ (m : Bounds). IsSmall m × IsSmall (add_ends (exactly sum) m) × SumsFit (add_ends (exactly sum) m) (map (ends s) cs) (map (ends s) xs)) (product_exactly b c x) h in
+    subst (λ (m : Bounds). IsSmall m × IsSmall (add_ends (exactly sum) m) × SumsFit (add_ends (exactly sum) m) (map (ends s) cs) (map (ends s) xs)) (product_exactly b c x) h in
     (small_fits p g.0, small_fits (sum +ℤ p) g.1, sums_fit b (sum +ℤ p) cs xs g.2)
 
 pub lists_fit : (b : List ℤ) (cs xs : Arg) → ListsFit (map exactly b) cs xs → ValuesFit (pos 0) (numbers b cs) (numbers b xs)
@@ -90,9 +90,9 @@ pub sum_meets : (b : List ℤ) (cs xs : List Arg) (sum : ℤ) (i : ℕ) (c x : A
     → SumGoes b cs xs sum i → SumMeets b cs xs sum (number b c *ℤ number b x) i (dot (map (number b) cs) (map (number b) xs))
 sum_meets b cs xs sum i c x p q cis xis goes =
     meets b cs xs (drop i cs) (drop i xs) sum i c x (dot (map (number b) cs) (map (number b) xs))
-      (drop_more cs i c p ∙ ap (λ (a : Arg). a ∷ drop (i + 1) cs) (sym cis))
-      (drop_more xs i x q ∙ ap (λ (a : Arg). a ∷ drop (i + 1) xs) (sym xis))
-      goes.total goes.fits
+    (drop_more cs i c p ∙ ap (λ (a : Arg). a ∷ drop (i + 1) cs) (sym cis))
+    (drop_more xs i x q ∙ ap (λ (a : Arg). a ∷ drop (i + 1) xs) (sym xis))
+    goes.total goes.fits
 
 pub sum_goes_on : (b : List ℤ) (cs xs : List Arg) (sum new p : ℤ) (i : ℕ) → SumMeets b cs xs sum p i (dot (map (number b) cs) (map (number b) xs)) → new ≡ sum +ℤ p → SumGoes b cs xs new (i + 1)
 sum_goes_on b cs xs sum new p i m e = record {
@@ -133,8 +133,7 @@ fits_step f cs xs sum next low high i c x e g m small is all =
     let same : mul_ends low high ≡ p = ap (λ (z : Bounds). mul_ends z high) e ∙ ap (mul_ends (f c)) g in
     let product : IsSmall p = subst IsSmall same small.0 in
     let whole : IsSmall (add_ends sum p) = subst (λ (z : Bounds). IsSmall (add_ends sum z)) same small.1 in
-    let now : next ≡ add_ends sum p = is ∙ ap (add_ends sum) same in
-    (
+    let now : next ≡ add_ends sum p = is ∙ ap (add_ends sum) same in (
       λ h. all.0 (m.from product whole (subst (λ (z : Bounds). SumsFit z (map f (drop (i + 1) cs)) (map f (drop (i + 1) xs))) now h)),
       λ h. subst (λ (z : Bounds). SumsFit z (map f (drop (i + 1) cs)) (map f (drop (i + 1) xs))) (sym now) (m.to (all.1 h)).2,
     )
@@ -154,12 +153,11 @@ fits_done f cs xs sum i le =
 pub sum_done : (b : List ℤ) (cs xs : List Arg) (sum : ℤ) (i : ℕ) → min (length cs) (length xs) ≤ i → SumGoes b cs xs sum i → sum ≡ dot (map (number b) cs) (map (number b) xs)
 sum_done b cs xs sum i le goes =
     let none : dot (map (number b) (drop i cs)) (map (number b) (drop i xs)) ≡ pos 0 =
-        elim (min_within (length cs) (length xs) i le) [
-          | inl p ↦ ap (λ (l : List Arg). dot (map (number b) l) (map (number b) (drop i xs))) (drop_all i cs p)
-          | inr p ↦ ap (λ (l : List Arg). dot (map (number b) (drop i cs)) (map (number b) l)) (drop_all i xs p) ∙ dot_nil (map (number b) (drop i cs))
-        ] in
+    elim (min_within (length cs) (length xs) i le) [
+      | inl p ↦ ap (λ (l : List Arg). dot (map (number b) l) (map (number b) (drop i xs))) (drop_all i cs p)
+      | inr p ↦ ap (λ (l : List Arg). dot (map (number b) (drop i cs)) (map (number b) l)) (drop_all i xs p) ∙ dot_nil (map (number b) (drop i cs))
+    ] in
     omega (arith, ints, none, goes.total)
-
 
 -- what the code computes of numbers that fit
 pub exact_product : (r s x y : ℤ) → FitsSigned w128 r → FitsSigned w128 s → r ≡ x → s ≡ y → (to_z w128 (of_z w128 r) *ℤ to_z w128 (of_z w128 s)) ≡ x *ℤ y

@@ -1,5 +1,5 @@
 -- The problem that a model states.
-use Rattle.std.specs.Prelude.{ℕ, ℤ, List, [], ◌∷◌, map, Option, None, Some}
+use Rattle.std.specs.Prelude.{ℤ, List, [], ◌∷◌, map, Option, None, Some}
 use Rattle.std.specs.List.{AllByRecursion}
 use Rattle.xf_num.specs.Domain.{IsMember}
 use Rattle.xf_problem.specs.Problem as problem

@@ -8,7 +8,8 @@ use crate::builtin::Builtin;
 use crate::model::{Arg, Call};
 use crate::sums::{dot, plus, times};
 use crate::worth::{
-    all_are, has, is_absolute, is_element, is_odd, is_quotient, is_remainder, members, none_is_greater, none_is_less, number, some_is,
+    all_are, has, is_absolute, is_element, is_odd, is_quotient, is_remainder, members,
+    none_is_greater, none_is_less, number, some_is,
 };
 
 /// Whether an argument is the truth of a test.
@@ -89,9 +90,10 @@ fn holds_of_three(builtin: Builtin, x: &Arg, y: &Arg, z: &Arg, b: &[i128]) -> bo
         Builtin::IntMod => is_remainder(number(x, b), number(y, b), number(z, b)),
         Builtin::IntMin => number(x, b).min(number(y, b)) == number(z, b),
         Builtin::IntMax => number(x, b).max(number(y, b)) == number(z, b),
-        Builtin::ArrayIntElement | Builtin::ArrayVarIntElement | Builtin::ArrayBoolElement | Builtin::ArrayVarBoolElement => {
-            is_element(number(x, b), members(y), number(z, b), b)
-        }
+        Builtin::ArrayIntElement
+        | Builtin::ArrayVarIntElement
+        | Builtin::ArrayBoolElement
+        | Builtin::ArrayVarBoolElement => { is_element(number(x, b), members(y), number(z, b), b) }
         Builtin::BoolAnd => is_truth(z, number(x, b) == 1 && number(y, b) == 1, b),
         Builtin::BoolOr => is_truth(z, number(x, b) == 1 || number(y, b) == 1, b),
         Builtin::BoolXor => is_truth(z, holds_of_two(Builtin::BoolXor, x, y, b), b),

@@ -3,3 +3,4 @@ pub mod Identifier
 pub mod Value
 pub mod Instance
 pub mod Sound
+pub mod Cells

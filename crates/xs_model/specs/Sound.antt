@@ -1,5 +1,5 @@
 -- When an instance is well formed, and when it keeps the limits on what is read.
-use Rattle.std.specs.Prelude.{◌≡◌, ◌≢◌, ◌⊎◌, ℕ, ◌+◌, ◌*◌, ◌-◌, ◌^◌, ◌<◌, ◌≤◌, ℤ, pos, ◌≤ℤ◌, nat_abs, List, [], ◌∷◌, length, map, sum, AllPairs}
+use Rattle.std.specs.Prelude.{◌≡◌, ◌≢◌, ℕ, ◌+◌, ◌*◌, ◌-◌, ◌^◌, ◌<◌, ◌≤◌, ℤ, pos, ◌≤ℤ◌, nat_abs, List, [], ◌∷◌, length, map, sum, AllPairs}
 use Rattle.std.specs.List.{AllByRecursion}
 use Rattle.xf_num.specs.Domain.{IsDomain, size_of}
 use Rattle.xf_num.specs.Span.{Bounds}
@@ -25,6 +25,10 @@ HasSmallEnds b = IsSmall b.lo × IsSmall b.hi
 abbrev pub IsSoundDomain : List Bounds → Type 0
 IsSoundDomain d = IsDomain d × AllByRecursion HasSmallEnds d
 
+-- a size of an array
+abbrev pub IsSize : ℤ → Type 0
+IsSize n = pos 1 ≤ℤ n
+
 -- the number of cells of an array of these sizes
 abbrev pub cell_count : List ℤ → ℕ
 cell_count [] = 1
@@ -34,7 +38,7 @@ cell_count (n ∷ ns) = places_of n * cell_count ns
 abbrev pub IsSoundDecl : Decl → Type 0
 IsSoundDecl (One name domain) = IsIdentifier name × IsSoundDomain domain
 IsSoundDecl (Array name sizes cells) =
-    IsIdentifier name × (0 < length sizes) × AllByRecursion (λ n. pos 1 ≤ℤ n) sizes × (length cells ≡ cell_count sizes) × (0 < length (defined cells)) × AllByRecursion IsSoundDomain (defined cells)
+    IsIdentifier name × (0 < length sizes) × AllByRecursion IsSize sizes × (length cells ≡ cell_count sizes) × (0 < length (defined cells)) × AllByRecursion IsSoundDomain (defined cells)
 
 -- the name of a declaration
 abbrev pub name_of : Decl → List ℕ

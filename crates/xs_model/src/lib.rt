@@ -9,7 +9,9 @@
 mod decl;
 mod expr;
 mod instance;
+mod words;
 
 pub use decl::{Cells, Decl, Decls};
 pub use expr::{Expr, Exprs, Op};
 pub use instance::{Constraint, Constraints, Instance};
+pub use words::word;

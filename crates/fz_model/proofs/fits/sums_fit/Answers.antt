@@ -12,4 +12,4 @@ loop-at-preserved c =
     let m = fits_meets f c.args.coefficients.now c.args.items.now c.loop-at.sum c.loop-at.at c.index-coefficients-at.result c.index-items-at.result (omega arith) (omega arith) c.index-coefficients-at.is c.index-items-at.is in
     let s = c.in-Some.ensures in
     fits_step f c.args.coefficients.now c.args.items.now c.loop-at.sum c.in-Some.next c.ends.result c.ends-in-loop-at.result c.loop-at.at c.index-coefficients-at.result c.index-items-at.result
-      c.ends.ensures c.ends-in-loop-at.ensures m s.0 s.1 c.loop-at.invariant
+    c.ends.ensures c.ends-in-loop-at.ensures m s.0 s.1 c.loop-at.invariant

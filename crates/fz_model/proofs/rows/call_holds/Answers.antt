@@ -1,5 +1,5 @@
-use Rattle.std.proofs.Common.{◌≡◌, rules, List, true, sym, ◌∙◌, subst, map}
-use Rattle.fz_model.specs.Meaning.{CallHolds, HoldsAt}
+use Rattle.std.proofs.Common.{rules}
+use Rattle.fz_model.specs.Meaning.{CallHolds}
 use Rattle.fz_model.proofs.rows.call_holds.Goals as goal
 
 pub returns : goal.returns

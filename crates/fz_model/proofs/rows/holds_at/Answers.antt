@@ -1,6 +1,5 @@
-use Rattle.std.proofs.Common.{◌≡◌, ℕ, ◌≤◌, false, List, [], ◌∷◌, length, map, refl, sym, arith}
+use Rattle.std.proofs.Common.{◌≡◌, ◌≤◌, false, List, [], ◌∷◌, length, map, refl, arith}
 use Rattle.fz_model.specs.declared.builtin.Builtin.{Builtin}
-use Rattle.fz_model.specs.declared.model.Arg.{Arg}
 use Rattle.fz_model.specs.Meaning.{Worth, worth, row_of}
 use Rattle.fz_model.proofs.rows.holds_at.Goals as goal
 

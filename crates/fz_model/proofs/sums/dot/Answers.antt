@@ -10,4 +10,4 @@ sum_of_products-requires c =
     let b = c.args.b.now in
     let fits = lists_fit b c.args.coefficients.now c.args.items.now c.requires in
     subst (λ (l : List Arg). ValuesFit (pos 0) (map (number b) c.members.result.now) (map (number b) l)) (sym c.members-2.ensures)
-      (subst (λ (l : List Arg). ValuesFit (pos 0) (map (number b) l) (map (number b) (members c.args.items.now))) (sym c.members.ensures) fits)
+    (subst (λ (l : List Arg). ValuesFit (pos 0) (map (number b) l) (map (number b) (members c.args.items.now))) (sym c.members.ensures) fits)

@@ -1,0 +1,4 @@
+pub mod Reading
+pub mod RowMajor
+pub mod ShownLemmas
+pub mod VarsLemmas

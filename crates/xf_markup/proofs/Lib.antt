@@ -1,0 +1,12 @@
+pub mod MarkLemmas
+pub mod CloseLemmas
+pub mod TakeLemmas
+pub mod ReadLemmas
+pub mod Alone
+pub mod Unique
+pub mod TagLemmas
+pub mod Exact
+pub mod DistinctLemmas
+pub mod SpellingLemmas
+pub mod WrittenTokens
+pub mod RoundTrip

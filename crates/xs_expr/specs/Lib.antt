@@ -1,0 +1,5 @@
+pub mod Shape
+pub mod Bounds
+pub mod Operands
+pub mod Worths
+pub mod Laws
