@@ -2,12 +2,12 @@
 use Rattle.std.specs.Prelude.{◌≡◌, ℕ, List, Option, Some, None}
 use Rattle.fz_file.specs.Layout.{layout}
 use Rattle.fz_model.specs.declared.model.Model.{Model}
-use Rattle.fz_model.specs.Solved as fz
-
+use Rattle.fz_model.specs.Solved as flat
+use Rattle.lo_names.specs.Spelling.{spelled}
 use Rattle.xf_problem.specs.Problem.{Extends, ExtendsOnce}
 use Rattle.xf_text.specs.declared.outside.Stored.{Stored}
 use Rattle.xs_model.specs.declared.instance.Instance.{Instance}
-use Rattle.xs_model.specs.Instance as xs
+use Rattle.xs_model.specs.Instance as xcsp
 use Rattle.xf_text.specs.Outside.{Appended}
 use Rattle.xf_top.specs.declared.answers.Answer.{Answer}
 use Rattle.xf_top.specs.declared.answers.Answer.TheVariants.{Done}
@@ -18,8 +18,8 @@ use Rattle.xf_top.specs.Outcome.{IsReadAs, AtFile}
 pub record IsConversion (i : Instance) (text : List ℕ) : Type 0 where
   pub model : Model
   pub denotes : text ≡ layout model
-  pub extends : Extends (λ w. w) (xs.problem_of i) (fz.problem_of model)
-  pub once : ExtendsOnce (xs.problem_of i) (fz.problem_of model)
+  pub extends : Extends spelled (xcsp.problem_of i) (flat.problem_of model)
+  pub once : ExtendsOnce (xcsp.problem_of i) (flat.problem_of model)
 
 -- where the files are told: the named file is read as an instance, of which the text is a conversion
 abbrev pub IsConverted : Option (List Stored) → List ℕ → List ℕ → Type 0

@@ -17,7 +17,8 @@ use crate::answers::{Answer, tell};
 use crate::reading::read_instance;
 use crate::words::{Command, file_word, read_command};
 use std::alloc::Global;
-use xf_carry::{EmitStop, write_lowered};
+use lo_base::EmitStop;
+use xf_carry::{low_extends, write_lowered};
 use xf_text::{Shelf, Sink};
 use xs_model::Instance;
 
@@ -102,6 +103,7 @@ fn write_instance<W: Sink>(alloc: Global, instance: &Instance, out: W) -> (Answe
     ensures written { IsWritten (layout (low instance.now)) (W.faults out) (W.faults result.1) (W.holds out) (W.holds result.1) result.0 }
     ensures extends { IsConversion instance.now (layout (low instance.now)) }
 {
+    low_extends();
     let (written, out) = write_lowered(alloc, instance, out);
     match written {
         Ok(()) => (Answer::Done, out),
