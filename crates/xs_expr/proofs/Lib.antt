@@ -7,3 +7,5 @@ pub mod Powers
 pub mod Totals
 pub mod Within
 pub mod Sound
+pub mod Narrow
+pub mod Bounded

@@ -15,7 +15,7 @@ use Rattle.xs_expr.specs.Laws.{AreWithin}
 use Rattle.xs_expr.specs.Shape.{IsCount, HasShape, IsShaped, IsExponent, IsExponentLayer, IsPower, ArePlaced}
 use Rattle.xs_expr.specs.Worths.{Fits, FitsAt, FitsNode}
 use Rattle.xs_expr.proofs.Every.{every-operands}
-use Rattle.xs_expr.proofs.Exponents.{literal, small-exponent}
+use Rattle.xs_expr.proofs.Exponents.{literal, literal-is}
 use Rattle.xs_expr.proofs.Layers.{values-are, node_worth-value}
 use Rattle.xs_expr.proofs.Within.{IsHeld, AreHeld, HasExponent, NodeHeld, limited-held, node-held}
 
@@ -36,7 +36,7 @@ some-values : (a : List ℤ) (es : List Expr) → 2 ≤ length es → map (val a
 some-values a [] h is = absurd (omega arith)
 some-values a (e ∷ es) h is = cc
 
-second-bounds : (r s : Result Bounds Kind) (z : ℤ) (bs : List Bounds) → s ≡ Ok (exactly z) → all_ok (r ∷ s ∷ []) ≡ Ok bs → (operand bs 1).lo ≡ z
+pub second-bounds : (r s : Result Bounds Kind) (z : ℤ) (bs : List Bounds) → s ≡ Ok (exactly z) → all_ok (r ∷ s ∷ []) ≡ Ok bs → (operand bs 1).lo ≡ z
 second-bounds (Err k) s z bs is h = cc
 second-bounds (Ok b) (Err k) z bs is h = cc
 second-bounds (Ok b) (Ok c) z bs is h =
@@ -51,7 +51,7 @@ module _ (ss : List Bounds) (a : List ℤ) where
   literal-value : (k : Expr) (x : Expr-F Expr) → out-Expr k ≡ x → IsExponentLayer x → (z : ℤ) → bounds ss k ≡ Ok (exactly z) → val a k ≡ z
   literal-value k (Expr-F.Int y) is h z b =
       let value : val a k ≡ y = ap (λ (w : Worth). w.value) (fold_out-Expr Worth (worth_step a) k ∙ ap (λ (x : Expr-F Expr). worth_step a (map-Expr Expr Worth (worth a) x)) is) in
-      let known : bounds ss k ≡ Ok (exactly y) = fold_out-Expr (Result Bounds Kind) (bounds_step ss) k ∙ ap (λ (x : Expr-F Expr). bounds_step ss (map-Expr Expr (Result Bounds Kind) (bounds ss) x)) is ∙ small-exponent y h in
+      let known : bounds ss k ≡ Ok (exactly y) = literal-is ss k y is h in
       value ∙ exact y z (bounds ss k) known b
   literal-value k (Expr-F.Var v) is h z b = absurd h
   literal-value k (Expr-F.Node op es) is h z b = absurd h

@@ -77,7 +77,7 @@ limited-held e b x w h =
     let is = limited-is e b h in
     record { within = subst (λ (d : Bounds). IsWithin d x) is.0 w; small = within_small e x is.1 w }
 
-abbrev no_fault : Bounds → Result Bounds Kind
+abbrev pub no_fault : Bounds → Result Bounds Kind
 no_fault b = Ok b
 
 held-ok : (e b : Bounds) (x : ℤ) → IsHeld e x → no_fault e ≡ Ok b → IsHeld b x

@@ -118,11 +118,18 @@ bounds ss = fold-Expr (Result Bounds Kind) (bounds_step ss)
 abbrev pub points : List ℤ → List Bounds
 points a = map exactly a
 
+-- the variables of an expression are among the first n
+abbrev pub HasVariable : ℕ → Expr-F Expr → Type 0
+HasVariable n (Expr-F.Int z) = ⊤
+HasVariable n (Expr-F.Var v) = v < n
+HasVariable n (Expr-F.Node op es) = ⊤
+
+abbrev pub HasVariables : ℕ → Expr → Type 0
+HasVariables n = every-Expr (HasVariable n)
+
 -- each variable has bounds
 abbrev pub HasSpan : List Bounds → Expr-F Expr → Type 0
-HasSpan ss (Expr-F.Int z) = ⊤
-HasSpan ss (Expr-F.Var v) = v < length ss
-HasSpan ss (Expr-F.Node op es) = ⊤
+HasSpan ss = HasVariable (length ss)
 
 abbrev pub HasSpans : List Bounds → Expr → Type 0
-HasSpans ss = every-Expr (HasSpan ss)
+HasSpans ss = HasVariables (length ss)

@@ -3,6 +3,7 @@ ghost use Rattle.std.specs.Int.{w128};
 ghost use Rattle.std.specs.List.{list_any};
 ghost use Rattle.std.specs.Ordering.{int_eq};
 ghost use Rattle.xs_expr.specs.Bounds.{bounds, points, HasSpans};
+ghost use Rattle.xs_expr.specs.Laws.{ValuesAreBounded};
 ghost use Rattle.xs_expr.specs.Shape.{IsShaped, IsExponent};
 ghost use Rattle.xs_expr.specs.Worths.{flipped, stepped, start, no_values, with_value, all_values, StepFits, StepsFit, node_value, NodeFits, Fits};
 ghost use Rattle.xs_model.specs.Value.{at, val, worth, second_members, power, exponent_of, absolute};
@@ -142,6 +143,13 @@ pub fn value(e: &Expr, a: &[i128]) -> i128
     ensures { result ≡ val a.now e.now }
 {
     value_of(e, a)
+}
+
+/// Where no node of an expression is at fault within bounds of its variables, none is at fault at values within
+/// these, and its value lies within its bounds.
+pub fn values_are_bounded()
+    ensures { ValuesAreBounded }
+{
 }
 
 #[cycle(value)]
