@@ -6,5 +6,9 @@
 #![tactic(auto)]
 
 mod limits;
+mod magnitude;
+mod worth;
 
 pub use limits::bounds;
+pub use magnitude::{judge, judge_expr, mag, mag_expr};
+pub use worth::{value, values_are_bounded};
