@@ -1,4 +1,5 @@
--- Which tokens fit, the tree of a text, and the place of a fault.
+-- Which tokens fit, the tree of a text (XML 1.0, sections 2.1 "Well-formed documents" and 3.1), and the place of a
+-- fault.
 use Rattle.std.specs.Prelude.{◌≡◌, ◌⊎◌, ℕ, ◌+◌, ◌-◌, ◌≤◌, ◌<◌, max, ◌==◌, Bool, true, false, ◌||◌, not, List, [], ◌∷◌, ◌++◌, length, drop, Option, None, Some, if◌then◌else◌, Result, Ok, Err}
 use Rattle.std.specs.List.{list_all}
 use Rattle.std.specs.Str.{bytes_eq}
