@@ -124,7 +124,10 @@ mod tests {
 
     #[test]
     fn causes_are_told(rt: HostRuntime) -> Result<(), Fail> {
-        for (stop, text) in [(EmitStop::Memory, "out of memory"), (EmitStop::Failed, "a write failed")] {
+        for (stop, text) in [
+            (EmitStop::Memory, "out of memory"),
+            (EmitStop::Failed, "a write failed"),
+        ] {
             assert_eq!(rt; stop.to_string(rt.alloc())?.as_str(), text);
         }
         Ok(())

@@ -161,10 +161,22 @@ mod tests {
             (b"a_2", false, -3, 5, false),
             (b"a_3", true, 0, 1, false),
         ];
-        for (var, (name, boolean, lo, hi, shown)) in model.vars.as_slice().iter().zip(wanted.iter()) {
+        for (var, (name, boolean, lo, hi, shown)) in model
+            .vars
+            .as_slice()
+            .iter()
+            .zip(wanted.iter())
+        {
             assert_eq!(rt; var.name.as_slice(), *name);
             assert_eq!(rt; (var.boolean, var.shown), (*boolean, *shown));
-            assert_eq!(rt; (var.domain.ranges(), var.domain.least(), var.domain.greatest()), (1, *lo, *hi));
+            assert_eq!(rt;
+                (
+                    var.domain.ranges(),
+                    var.domain.least(),
+                    var.domain.greatest()
+                ),
+                (1, *lo, *hi)
+            );
         }
         Ok(())
     }
