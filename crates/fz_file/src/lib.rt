@@ -6,6 +6,8 @@
 
 mod argument;
 mod line;
+mod model;
 mod number;
 
 pub use line::{push_call, push_goal, push_var};
+pub use model::{call_line, goal_line, var_line, write_model};

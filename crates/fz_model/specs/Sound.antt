@@ -1,13 +1,18 @@
 -- Which calls a sound model may have, and when the numbers of a call stay small.
-use Rattle.std.specs.Prelude.{◌≡◌, ◌⊎◌, ℕ, ◌-◌, ◌^◌, ℤ, pos, neg_ℤ, ◌+ℤ◌, ◌*ℤ◌, ◌≤ℤ◌, FitsSigned, Bool as Truth, true, false, List, [], ◌∷◌, map, get_or, slice_get, Some}
-use Rattle.std.specs.List.{AllByRecursion}
+use Rattle.std.specs.Prelude.{◌≡◌, ◌≢◌, ◌⊎◌, ◌&&◌, ◌||◌, nat_le, nat_eq, codes, length, AllPairs, ℕ, ◌-◌, ◌^◌, ℤ, pos, neg_ℤ, ◌+ℤ◌, ◌*ℤ◌, ◌≤ℤ◌, FitsSigned, Bool as Truth, true, false, List, [], ◌∷◌, map, get_or, slice_get, Some}
+use Rattle.std.specs.List.{AllByRecursion, list_all}
 use Rattle.std.specs.Int.{w128}
+use Rattle.xf_num.specs.Domain.{IsDomain, least_of, greatest_of}
 use Rattle.xf_num.specs.Span.{Bounds, add_ends, mul_ends}
 use Rattle.fz_model.specs.declared.builtin.Builtin.{Builtin}
 use Rattle.fz_model.specs.declared.builtin.Builtin.TheVariants.{IntLinEq, IntLinNe, IntLinLe, IntLinEqReif, IntLinNeReif, IntLinLeReif, IntEq, IntNe, IntLe, IntLt, IntEqReif, IntNeReif, IntLeReif, IntLtReif, IntAbs, IntPlus, IntTimes, IntDiv, IntMod, IntMin, IntMax, ArrayIntMinimum, ArrayIntMaximum, ArrayIntElement, ArrayVarIntElement, ArrayBoolElement, ArrayVarBoolElement, Bool2Int, BoolEq, BoolLe, BoolLt, BoolEqReif, BoolLeReif, BoolLtReif, BoolNot, BoolAnd, BoolOr, BoolXor, BoolClause, BoolClauseReif, ArrayBoolAnd, ArrayBoolOr, ArrayBoolXor, BoolLinEq, BoolLinLe, SetIn, SetInReif}
 use Rattle.fz_model.specs.declared.model.Arg.{Arg, out-Arg}
 use Rattle.fz_model.specs.declared.model.Arg.TheOpen.{Arg-F, Int, Bool, Var, Range, Set, List as Listed}
 use Rattle.fz_model.specs.declared.model.Call.{Call}
+use Rattle.fz_model.specs.declared.model.FzVar.{FzVar}
+use Rattle.fz_model.specs.declared.model.Goal.{Goal}
+use Rattle.fz_model.specs.declared.model.Goal.TheVariants.{Satisfy, Minimize, Maximize}
+use Rattle.fz_model.specs.declared.model.Model.{Model}
 use Rattle.fz_model.specs.Meaning.{truth, members}
 
 -- the greatest magnitude of an integer of a model
@@ -188,6 +193,75 @@ abbrev pub HasShape : List Truth → Builtin → List Arg → Type 0
 HasShape booleans BoolXor args = AreOfKinds booleans bools args ⊎ AreOfKinds booleans three_bools args
 HasShape booleans i args = AreOfKinds booleans (kinds_of i) args
 
--- the call has arguments of the right number and kinds, and each integer of it is small
-abbrev pub IsCall : List Truth → Call → Type 0
-IsCall booleans call = HasShape booleans call.builtin call.args
+-- the two lists of a linear builtin are of one length
+abbrev pub AreOfOneLength : Work → List Arg → Type 0
+AreOfOneLength Products (cs ∷ xs ∷ rest) = length (members cs) ≡ length (members xs)
+AreOfOneLength _ _ = Unit {0}
+
+-- the call has arguments of the right number, kinds and lengths, and each integer of it is small
+pub record IsCall (booleans : List Truth) (call : Call) : Type 0 where
+  pub shape : HasShape booleans call.builtin call.args
+  pub lengths : AreOfOneLength (work_of call.builtin) call.args
+
+-- an identifier: an ASCII letter or `_`, and then letters, digits and `_`
+abbrev pub is_letter : ℕ → Truth
+is_letter c = (nat_le 65 c && nat_le c 90) || (nat_le 97 c && nat_le c 122) || nat_eq c 95
+
+abbrev pub is_word : ℕ → Truth
+is_word c = is_letter c || (nat_le 48 c && nat_le c 57)
+
+abbrev pub IsIdentifier : List ℕ → Type 0
+IsIdentifier [] = ⊥
+IsIdentifier (c ∷ cs) = (is_letter c ≡ true) × (list_all is_word cs ≡ true)
+
+-- the words of the grammar, which are no names
+abbrev pub keywords : List (List ℕ)
+keywords =
+    codes "predicate"
+    ∷ codes "bool"
+    ∷ codes "int"
+    ∷ codes "set"
+    ∷ codes "of"
+    ∷ codes "array"
+    ∷ codes "var"
+    ∷ codes "constraint"
+    ∷ codes "solve"
+    ∷ codes "satisfy"
+    ∷ codes "minimize"
+    ∷ codes "maximize"
+    ∷ codes "true"
+    ∷ codes "false"
+    ∷ []
+
+abbrev pub IsName : List ℕ → Type 0
+IsName name = IsIdentifier name × AllByRecursion (λ word. name ≢ word) keywords
+
+-- a Boolean variable has the domain 0..1
+abbrev pub HasOwnDomain : Truth → List Bounds → Type 0
+HasOwnDomain true domain = domain ≡ record { lo = pos 0; hi = pos 1 } ∷ []
+HasOwnDomain false domain = IsDomain domain × AllByRecursion IsSmall domain
+
+abbrev pub booleans_of : List FzVar → List Truth
+booleans_of vs = map (λ (v : FzVar). v.boolean) vs
+
+abbrev pub IsSoundGoal : List Truth → Goal → Type 0
+IsSoundGoal booleans Satisfy = Unit {0}
+IsSoundGoal booleans (Minimize v) = slice_get booleans v ≡ Some false
+IsSoundGoal booleans (Maximize v) = slice_get booleans v ≡ Some false
+
+-- the model is well formed: its names are identifiers that differ and are no keywords, its domains and integers are in
+-- bounds, and its calls and its goal speak of variables that it has, in the right places
+pub record IsSound (m : Model) : Type 0 where
+  pub distinct : AllPairs (λ a b. a ≢ b) (map (λ (v : FzVar). v.name) m.vars)
+  pub names : AllByRecursion (λ (v : FzVar). IsName v.name) m.vars
+  pub domains : AllByRecursion (λ (v : FzVar). HasOwnDomain v.boolean v.domain) m.vars
+  pub calls : AllByRecursion (IsCall (booleans_of m.vars)) m.calls
+  pub goal : IsSoundGoal (booleans_of m.vars) m.goal
+
+-- from the least to the greatest member of a domain
+abbrev pub ends_of_domain : List Bounds → Bounds
+ends_of_domain d = record { lo = least_of d; hi = greatest_of d }
+
+-- no sum and no product of a call passes the greatest magnitude, wherever the variables lie in their domains
+abbrev pub AllFit : Model → Type 0
+AllFit m = AllByRecursion (CallFits (map (λ (v : FzVar). ends_of_domain v.domain) m.vars)) m.calls

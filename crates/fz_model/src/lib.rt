@@ -5,6 +5,7 @@ mod build;
 mod builtin;
 mod fits;
 mod laws;
+mod measure;
 mod model;
 mod rows;
 mod sums;
@@ -14,5 +15,6 @@ pub use build::{call_of, call_of_four, call_of_one, call_of_three, call_of_two, 
 pub use builtin::Builtin;
 pub use fits::call_fits;
 pub use laws::fixing_law;
+pub use measure::size;
 pub use model::{Arg, Args, Call, Calls, FzVar, FzVars, Goal, Model};
 pub use rows::call_holds;

@@ -1,4 +1,4 @@
-use Rattle.std.proofs.Common.{◌≡◌, ◌++◌, drop, map, Bool, true, false}
+use Rattle.std.proofs.Common.{◌≡◌, ◌++◌, drop, map, true}
 use Rattle.fz_file.specs.Layout.{arg_text, names_of}
 use Rattle.fz_file.proofs.ListedLemmas.{listed_after}
 use Rattle.fz_file.proofs.argument.+argument.Given as goal

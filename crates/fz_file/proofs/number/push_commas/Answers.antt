@@ -1,4 +1,4 @@
-use Rattle.std.proofs.Common.{◌≡◌, ◌<◌, ◌++◌, ℕ, ℤ, pos, List, get_or, length, sym, ap, ◌∙◌, rules, FitsSigned, arith}
+use Rattle.std.proofs.Common.{◌<◌, ◌++◌, ℕ, ℤ, pos, List, get_or, length, sym, ap, ◌∙◌, rules, FitsSigned, arith}
 use Rattle.std.specs.Int.{w128}
 use Rattle.std.proofs.lemmas.Int.{to_z-of_z}
 use Rattle.std.proofs.lemmas.List.{at_drop_more}

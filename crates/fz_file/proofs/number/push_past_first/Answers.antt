@@ -1,4 +1,4 @@
-use Rattle.std.proofs.Common.{◌≡◌, ◌++◌, ◌+ℤ◌, pos, rules, arith, ap, sym, ◌∙◌, FitsSigned}
+use Rattle.std.proofs.Common.{◌++◌, ◌+ℤ◌, pos, rules, arith, ap, sym, ◌∙◌, FitsSigned}
 use mir.Val.{to_z}
 use Rattle.std.specs.Int.{w128}
 use Rattle.std.proofs.lemmas.Int.{ints, to_z-of_z}

@@ -1,0 +1,6 @@
+pub mod Conditions
+pub mod Words
+pub mod Identifiers
+pub mod Integers
+pub mod Lists
+pub mod Sizes
