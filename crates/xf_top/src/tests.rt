@@ -220,23 +220,33 @@ fn spaces(alloc: Global, count: usize) -> Result<Text, Fail> {
     Ok(bytes)
 }
 
-#[test]
-fn a_file_of_more_than_64_mib_is_too_long(rt: HostRuntime) -> Result<(), Fail> {
-    let alloc = rt.alloc();
+// The run over a file of so many spaces.
+fn run_on_spaces(alloc: Global, count: usize) -> Result<Ended, Fail> {
     let words = words_of(alloc, "to-fzn i.xml")?;
-    let files = shelf(alloc, spaces(alloc, 67_108_865)?, &[])?;
-    let ended = ran(
+    let files = shelf(alloc, spaces(alloc, count)?, &[])?;
+    Ok(ran(
         alloc,
         &words,
         files,
         sink(alloc, &[], WHOLE)?,
         sink(alloc, &[], WHOLE)?,
-    );
+    ))
+}
+
+#[test]
+fn a_file_of_more_than_64_mib_is_too_long(rt: HostRuntime) -> Result<(), Fail> {
+    let ended = run_on_spaces(rt.alloc(), 67_108_865)?;
     assert_eq!(rt; ended.status, 2);
     assert_eq!(rt; ended.out.bytes(), b"".as_slice());
-    assert_eq!(rt;
-        ended.err.bytes(),
-        b"refused F1 at 67108864 in i.xml\n".as_slice()
-    );
+    assert_eq!(rt; ended.err.bytes(), b"refused F1 at 67108864 in i.xml\n".as_slice());
+    Ok(())
+}
+
+#[test]
+fn a_file_of_64_mib_is_read(rt: HostRuntime) -> Result<(), Fail> {
+    let ended = run_on_spaces(rt.alloc(), 67_108_864)?;
+    assert_eq!(rt; ended.status, 2);
+    assert_eq!(rt; ended.out.bytes(), b"".as_slice());
+    assert_eq!(rt; ended.err.bytes(), b"refused F3 at 0 in i.xml\n".as_slice());
     Ok(())
 }
