@@ -4,3 +4,4 @@ pub mod Identifiers
 pub mod Integers
 pub mod Lists
 pub mod Sizes
+pub mod Variables

@@ -16,6 +16,7 @@ mod integer;
 mod pieces;
 mod runs;
 mod sizes;
+mod variable;
 mod words;
 
 pub use condition::{Condition, earlier};
@@ -24,4 +25,9 @@ pub use integer::{judge_integer, read_integer};
 pub use pieces::{judge_pieces, read_pieces};
 pub use runs::{count_ints, judge_ints, read_ints};
 pub use sizes::{judge_sizes, read_sizes};
+pub use variable::{Bracket, Brackets, Word, judge_word, read_word};
 pub use words::{is_blank, next_word};
+
+
+#[cfg(test)]
+mod tests;
