@@ -7,3 +7,6 @@ pub mod Unique
 pub mod TagLemmas
 pub mod Exact
 pub mod DistinctLemmas
+pub mod SpellingLemmas
+pub mod WrittenTokens
+pub mod RoundTrip

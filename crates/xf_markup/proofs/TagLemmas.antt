@@ -7,7 +7,7 @@ front_join : (out : List Attr) (a : Attr) (t : Option Tail) → with_front (out 
 front_join out a None = refl
 front_join out a (Some t) = ap (λ xs. Some (record { attrs = xs; is_empty = t.is_empty; rest = t.rest })) (append_assoc out (a ∷ []) t.attrs)
 
-tail_suc : (m : ℕ) (rest name value after : List ℕ) → end_at rest ≡ None → attr_at rest ≡ Some (name, value, after) → tail_at (suc m) rest ≡ with_front (attr_of name value ∷ []) (tail_at m after)
+pub tail_suc : (m : ℕ) (rest name value after : List ℕ) → end_at rest ≡ None → attr_at rest ≡ Some (name, value, after) → tail_at (suc m) rest ≡ with_front (attr_of name value ∷ []) (tail_at m after)
 tail_suc m rest name value after h e = ap (λ t. tail_of t (tail_on (attr_at rest) (tail_at m))) h ∙ ap (λ x. tail_on x (tail_at m)) e
 
 pub tail_more : (out new : List Attr) (m k : ℕ) (rest name value after : List ℕ) → end_at rest ≡ None → attr_at rest ≡ Some (name, value, after) → k ≡ suc m → new ≡ out ++ attr_of name value ∷ []

@@ -17,7 +17,7 @@ begun_free root (f ∷ fs) free none = cc
 begun_free None [] free none = refl
 begun_free (Some n) [] free none = cc
 
-fits_opens : (names : List (List ℕ)) (s : State) (place : ℕ) (name : List ℕ) (attrs : List Attr) (e : Bool) → are_distinct attrs ≡ true → (names ≡ [] → s.begun ≡ false) → fits_at names s (Opens place name attrs e) ≡ Some (opened name e s)
+pub fits_opens : (names : List (List ℕ)) (s : State) (place : ℕ) (name : List ℕ) (attrs : List Attr) (e : Bool) → are_distinct attrs ≡ true → (names ≡ [] → s.begun ≡ false) → fits_at names s (Opens place name attrs e) ≡ Some (opened name e s)
 fits_opens [] s place name attrs e d h = rw (h refl, d) refl
 fits_opens (n ∷ ns) s place name attrs e d h = rw d refl
 
@@ -61,7 +61,7 @@ innermost : (name : List ℕ) (outer : List Frame) → is_innermost name outer �
 innermost name [] h = cc
 innermost name (f ∷ fs) h = (f, fs, refl, (bytes_eq-Decides name f.name).0 h)
 
-fits_closes : (names ns : List (List ℕ)) (s : State) (name n : List ℕ) → names ≡ n ∷ ns → name ≡ n → fits_at names s (Closes name) ≡ Some (record { open_names = ns; begun = s.begun; deepest = s.deepest })
+pub fits_closes : (names ns : List (List ℕ)) (s : State) (name n : List ℕ) → names ≡ n ∷ ns → name ≡ n → fits_at names s (Closes name) ≡ Some (record { open_names = ns; begun = s.begun; deepest = s.deepest })
 fits_closes [] ns s name n e same = cc
 fits_closes (m ∷ ms) ns s name n e same =
     let hit : bytes_eq name m ≡ true = (bytes_eq-Decides name m).1 (cc) in

@@ -8,13 +8,13 @@ use Rattle.xf_markup.specs.Head.{head_at}
 use Rattle.xf_markup.specs.Reading.{Tree, start}
 use Rattle.xf_markup.proofs.Alone.{same_end, whole_stops}
 
-flat_roll : (x : Node-F Piece Node) → flat (roll-Node x) ≡ Opened x.place x.name x.attrs ∷ (flat_pieces x.pieces ++ Closed x.name ∷ [])
+pub flat_roll : (x : Node-F Piece Node) → flat (roll-Node x) ≡ Opened x.place x.name x.attrs ∷ (flat_pieces x.pieces ++ Closed x.name ∷ [])
 flat_roll x = fold-roll-Node (List Mark) (List Mark) piece_step node_step x
 
-words_roll : (w : List ℕ) → flat_piece (roll-Piece (Piece-F.Words w)) ≡ Said w ∷ []
+pub words_roll : (w : List ℕ) → flat_piece (roll-Piece (Piece-F.Words w)) ≡ Said w ∷ []
 words_roll w = fold-roll-Piece (List Mark) (List Mark) piece_step node_step (Piece-F.Words w)
 
-inner_roll : (n : Node) → flat_piece (roll-Piece (Piece-F.Inner n)) ≡ flat n
+pub inner_roll : (n : Node) → flat_piece (roll-Piece (Piece-F.Inner n)) ≡ flat n
 inner_roll n = fold-roll-Piece (List Mark) (List Mark) piece_step node_step (Piece-F.Inner n)
 
 -- the marks of an element
@@ -53,7 +53,7 @@ pieces_agree (p ∷ ps) (q ∷ qs) s t a b h =
 opened_is : (p q : ℕ) (s t : List ℕ) (a b : List Attr) → Opened p s a ≡ Opened q t b → (p ≡ q) × (s ≡ t) × (a ≡ b)
 opened_is p q s t a b e = (cc, cc, cc)
 
-abbrev layer : List ℕ → List Attr → List Piece → ℕ → Node-F Piece Node
+abbrev pub layer : List ℕ → List Attr → List Piece → ℕ → Node-F Piece Node
 layer name attrs pieces place = record { name = name; attrs = attrs; pieces = pieces; place = place }
 
 node_step_agrees : (x : Node-F Piece Node) (y : Node-F ((p : Piece) × PieceClaim p) ((n : Node) × NodeClaim n))

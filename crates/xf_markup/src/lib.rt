@@ -1,4 +1,4 @@
-//! Markup of elements, attributes and texts, read as a tree.
+//! Markup of elements, attributes and texts, read as a tree and written from one.
 //!
 //! It stands on `xf_num`, `xf_text` and `memchr`. The markup is a part of XML: a byte order mark and a declaration
 //! `<?xml ..?>` at the very start, comments, open, empty and end tags, and texts. There are no document types, no
@@ -7,6 +7,7 @@
 //! `read_tree` answers the tree of a text exactly where it has one of at most 200 levels. Else it answers F2 at the
 //! first byte of the first token that is none or does not fit, or at the length of a text that ends too early, or F7
 //! at the tag that opens level 201. `one_outcome` says that a text has only one of these answers.
+//! What `write_tree` writes has the tree that it was made from, but for places.
 #![tactic(auto)]
 
 mod cut;
@@ -18,6 +19,8 @@ mod names;
 mod read;
 mod tag;
 mod tree;
+mod write;
 
 pub use read::{one_outcome, read_tree};
 pub use tree::{Attr, Node, Piece};
+pub use write::write_tree;

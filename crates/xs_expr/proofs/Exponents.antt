@@ -12,15 +12,18 @@ use Rattle.xs_expr.specs.Operands.{gathered, gathered_of, none}
 use Rattle.xs_expr.specs.Shape.{IsExponent, IsExponentLayer, IsPower}
 use Rattle.xs_expr.proofs.Gathered.{gathered-second}
 
-small-exponent : (z : ℤ) → IsExponent z → limited (exactly z) ≡ Ok (exactly z)
+pub small-exponent : (z : ℤ) → IsExponent z → limited (exactly z) ≡ Ok (exactly z)
 small-exponent z h = grind (arith, common_steps, h.least, h.greatest)
 
 ok_is : {X : Type 0} (x y : X) (r : Result X Kind) → r ≡ Ok x → r ≡ Ok y → x ≡ y
 ok_is x y r g h = cc
 
 module _ (ss : List Bounds) where
-  literal : (k : Expr) (x : Expr-F Expr) → out-Expr k ≡ x → IsExponentLayer x → (z : ℤ) × IsExponent z × (bounds ss k ≡ Ok (exactly z))
-  literal k (Expr-F.Int z) e h = (z, h, fold_out-Expr (Result Bounds Kind) (bounds_step ss) k ∙ ap (λ (x : Expr-F Expr). bounds_step ss (map-Expr Expr (Result Bounds Kind) (bounds ss) x)) e ∙ small-exponent z h)
+  pub literal-is : (k : Expr) (z : ℤ) → out-Expr k ≡ Expr-F.Int z → IsExponent z → bounds ss k ≡ Ok (exactly z)
+  literal-is k z e h = fold_out-Expr (Result Bounds Kind) (bounds_step ss) k ∙ ap (λ (x : Expr-F Expr). bounds_step ss (map-Expr Expr (Result Bounds Kind) (bounds ss) x)) e ∙ small-exponent z h
+
+  pub literal : (k : Expr) (x : Expr-F Expr) → out-Expr k ≡ x → IsExponentLayer x → (z : ℤ) × IsExponent z × (bounds ss k ≡ Ok (exactly z))
+  literal k (Expr-F.Int z) e h = (z, h, literal-is k z e h)
   literal k (Expr-F.Var v) e h = absurd h
   literal k (Expr-F.Node op es) e h = absurd h
 

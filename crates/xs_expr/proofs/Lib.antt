@@ -2,3 +2,10 @@ pub mod Every
 pub mod Exponents
 pub mod Gathered
 pub mod Layers
+pub mod Members
+pub mod Powers
+pub mod Totals
+pub mod Within
+pub mod Sound
+pub mod Narrow
+pub mod Bounded

@@ -3,7 +3,7 @@
 -- The nodes are judged one after the other, the operands before their node, the first operand first. A node is at
 -- fault where a truth value is asked of an operand that may be other than 0 and 1, where a dividend may be negative
 -- or a divisor less than 1, and where its own bounds pass the greatest magnitude of an integer.
-use Rattle.std.specs.Prelude.{ℕ, ◌<◌, ℤ, pos, neg_ℤ, int_le, List, [], ◌∷◌, length, slice_index_or, Bool, ◌&&◌, if◌then◌else◌, Result, Ok, Err, ⊤}
+use Rattle.std.specs.Prelude.{ℕ, ◌<◌, ℤ, pos, neg_ℤ, int_le, List, [], ◌∷◌, length, slice_index_or, map, Bool, ◌&&◌, if◌then◌else◌, Result, Ok, Err, ⊤}
 use Rattle.std.specs.List.{list_all}
 use Rattle.xf_num.specs.Span.{Bounds, add_ends, sub_ends, mul_ends, min_ends, max_ends, neg_ends, abs_ends, pow_ends, div_ends, rem_ends, join_ends}
 use Rattle.xf_text.specs.declared.fault.Kind.{Kind}
@@ -114,11 +114,22 @@ bounds_step ss (Expr-F.Node op rs) = and_then (all_ok rs) (node_bounds op)
 abbrev pub bounds : List Bounds → Expr → Result Bounds Kind
 bounds ss = fold-Expr (Result Bounds Kind) (bounds_step ss)
 
+-- the bounds of values
+abbrev pub points : List ℤ → List Bounds
+points a = map exactly a
+
+-- the variables of an expression are among the first n
+abbrev pub HasVariable : ℕ → Expr-F Expr → Type 0
+HasVariable n (Expr-F.Int z) = ⊤
+HasVariable n (Expr-F.Var v) = v < n
+HasVariable n (Expr-F.Node op es) = ⊤
+
+abbrev pub HasVariables : ℕ → Expr → Type 0
+HasVariables n = every-Expr (HasVariable n)
+
 -- each variable has bounds
 abbrev pub HasSpan : List Bounds → Expr-F Expr → Type 0
-HasSpan ss (Expr-F.Int z) = ⊤
-HasSpan ss (Expr-F.Var v) = v < length ss
-HasSpan ss (Expr-F.Node op es) = ⊤
+HasSpan ss = HasVariable (length ss)
 
 abbrev pub HasSpans : List Bounds → Expr → Type 0
-HasSpans ss = every-Expr (HasSpan ss)
+HasSpans ss = HasVariables (length ss)

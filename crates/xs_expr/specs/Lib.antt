@@ -1,3 +1,6 @@
 pub mod Shape
 pub mod Bounds
 pub mod Operands
+pub mod Worths
+pub mod Laws
+pub mod Magnitude

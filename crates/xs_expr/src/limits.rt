@@ -81,7 +81,7 @@ fn distance(a: Span, b: Span) -> Result<Span, Kind>
 }
 
 /// An exponent as a number of factors.
-fn exponent(value: i128) -> u32
+pub(crate) fn exponent(value: i128) -> u32
     requires { IsExponent value }
     ensures value { result ≡ exponent_of value }
     ensures least { 1 ≤ result }

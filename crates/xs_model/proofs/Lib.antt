@@ -1,1 +1,5 @@
 pub mod Places
+pub mod TableLemmas
+pub mod BracketLemmas
+pub mod NamesLemmas
+pub mod FindLemmas

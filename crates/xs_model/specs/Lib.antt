@@ -4,3 +4,7 @@ pub mod Value
 pub mod Instance
 pub mod Sound
 pub mod Cells
+pub mod Outline
+pub mod Denotes
+pub mod Places
+pub mod Table

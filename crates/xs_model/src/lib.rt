@@ -6,12 +6,16 @@
 //! the other crates cite.
 #![tactic(auto)]
 
+mod brackets;
 mod decl;
 mod expr;
 mod instance;
+mod names;
+mod table;
 mod words;
 
 pub use decl::{Cells, Decl, Decls};
 pub use expr::{Expr, Exprs, Op};
 pub use instance::{Constraint, Constraints, Instance};
+pub use names::{NameStop, Names};
 pub use words::word;
