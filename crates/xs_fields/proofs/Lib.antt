@@ -1,5 +1,6 @@
 pub mod PartLemmas
 pub mod OrderLemmas
 pub mod ListLemmas
+pub mod CellLemmas
 pub mod IntegerLemmas
 pub mod CompareLemmas

@@ -5,3 +5,4 @@ pub mod Integers
 pub mod Lists
 pub mod Sizes
 pub mod Variables
+pub mod Cells

@@ -9,6 +9,7 @@
 //! of one unit miss. Counts are decided before anything is expanded.
 #![tactic(auto)]
 
+mod cells;
 mod compare;
 mod condition;
 mod identifier;
@@ -27,7 +28,6 @@ pub use runs::{count_ints, judge_ints, read_ints};
 pub use sizes::{judge_sizes, read_sizes};
 pub use variable::{Bracket, Brackets, Word, judge_word, read_word};
 pub use words::{is_blank, next_word};
-
 
 #[cfg(test)]
 mod tests;
