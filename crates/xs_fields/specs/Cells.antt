@@ -23,7 +23,7 @@ declared_at os name = position (λ o. bytes_eq o.name name) os
 -- the indices of a bracket lie below the size
 abbrev pub is_inside : ℤ → Bracket → Bool
 is_inside n (At k) = int_le (pos 0) k && int_lt k n
-is_inside n (Between s) = int_le (pos 0) s.lo && int_lt s.hi n
+is_inside n (Between s) = int_le (pos 0) s.lo && int_le s.lo s.hi && int_lt s.hi n
 is_inside n Every = true
 
 -- one bracket per dimension, and each lies inside
