@@ -1,5 +1,5 @@
 -- The cells that brackets cover, dimension after dimension.
-use Rattle.std.proofs.Common.{◌≡◌, ℕ, zero, suc, ◌+◌, ◌*◌, ◌-◌, ◌<◌, ◌≤◌, ◌++◌, ◌^◌, Bool, true, false, ◌&&◌, List, [], ◌∷◌, Option, None, Some, length, map, take, drop, get_or, drop-cons, ℤ, pos, negsuc, ◌≤ℤ◌, refl, ap, sym, subst, ◌∙◌, arith, rules, append_assoc, append-nil}
+use Rattle.std.proofs.Common.{◌≡◌, ℕ, zero, suc, ◌+◌, ◌*◌, ◌-◌, ◌<◌, ◌≤◌, ◌++◌, ◌^◌, Bool, true, false, ◌&&◌, List, [], ◌∷◌, length, map, drop, get_or, drop-cons, ℤ, pos, negsuc, ◌≤ℤ◌, refl, ap, sym, subst, ◌∙◌, arith, rules, append_assoc, append-nil}
 use Rattle.std.specs.List.{AllByRecursion, flat_map, range_with_len}
 use Rattle.std.proofs.lemmas.List.{drop_all, map-append}
 use Rattle.std.proofs.lemmas.List.FromFn.{map-range_with_len_more}
@@ -35,17 +35,17 @@ pub run_more : (old places : List ℕ) (start place : ℕ) → start ≤ place �
 run_more old places start place h so_far =
     let one : (place - start) + 1 ≡ (place + 1) - start = omega arith in
     ap (λ xs. xs ++ place ∷ []) so_far
-        ∙ append_assoc old (range_with_len start (place - start)) (place ∷ [])
-        ∙ ap (λ xs. old ++ xs) (sym (range_more start (place - start) place (omega arith)) ∙ ap (range_with_len start) one)
+    ∙ append_assoc old (range_with_len start (place - start)) (place ∷ [])
+    ∙ ap (λ xs. old ++ xs) (sym (range_more start (place - start) place (omega arith)) ∙ ap (range_with_len start) one)
 
 -- one item more of a list that is flat-mapped
 pub flat_more : (f : ℕ → List ℕ) (xs done all : List ℕ) (i : ℕ) → i < length xs → done ++ flat_map f (drop i xs) ≡ all → (done ++ f (get_or xs i 0)) ++ flat_map f (drop (i + 1) xs) ≡ all
 flat_more f xs done all i h so_far =
     let s : i + 1 ≡ suc i = omega arith in
     append_assoc done (f (get_or xs i 0)) (flat_map f (drop (i + 1) xs))
-        ∙ ap (λ n. done ++ (f (get_or xs i 0) ++ flat_map f (drop n xs))) s
-        ∙ ap (λ ys. done ++ flat_map f ys) (sym (drop-cons xs i 0 h))
-        ∙ so_far
+    ∙ ap (λ n. done ++ (f (get_or xs i 0) ++ flat_map f (drop n xs))) s
+    ∙ ap (λ ys. done ++ flat_map f ys) (sym (drop-cons xs i 0 h))
+    ∙ so_far
 
 pub flat_all : (f : ℕ → List ℕ) (xs done all : List ℕ) (i : ℕ) → length xs ≤ i → done ++ flat_map f (drop i xs) ≡ all → done ≡ all
 flat_all f xs done all i h so_far = sym (append-nil done) ∙ ap (λ ys. done ++ flat_map f ys) (sym (drop_all i xs h)) ∙ so_far
@@ -92,13 +92,13 @@ cells_behind ns bs p = map (place_from p ns) (covered ns bs)
 step_at : (n : ℤ) (ns : List ℤ) (b : Bracket) (bs : List Bracket) (p : ℕ) → flat_map (cells_behind ns bs) (range_with_len (p * places_of n + first_index b) (index_count n b)) ≡ map (place_from p (n ∷ ns)) (flat_map (λ i. map (λ t. i ∷ t) (covered ns bs)) (indices n b))
 step_at n ns b bs p =
     shifted (cells_behind ns bs) (p * places_of n) (first_index b) (index_count n b)
-        ∙ sym (map_flat (place_from p (n ∷ ns)) (λ i. map (λ t. i ∷ t) (covered ns bs)) (indices n b) ∙ flat_same (λ i. map (place_from p (n ∷ ns)) (map (λ t. i ∷ t) (covered ns bs))) (λ i. cells_behind ns bs (p * places_of n + i)) (λ i. map_twice (place_from p (n ∷ ns)) (λ t. i ∷ t) (covered ns bs)) (indices n b))
+    ∙ sym (map_flat (place_from p (n ∷ ns)) (λ i. map (λ t. i ∷ t) (covered ns bs)) (indices n b) ∙ flat_same (λ i. map (place_from p (n ∷ ns)) (map (λ t. i ∷ t) (covered ns bs))) (λ i. cells_behind ns bs (p * places_of n + i)) (λ i. map_twice (place_from p (n ∷ ns)) (λ t. i ∷ t) (covered ns bs)) (indices n b))
 
 -- one dimension further
 pub places_step : (places : List ℕ) (n : ℤ) (ns : List ℤ) (b : Bracket) (bs : List Bracket) → from_places (widened_by n b places) ns bs ≡ from_places places (n ∷ ns) (b ∷ bs)
 places_step places n ns b bs =
     flat_twice (cells_behind ns bs) (λ p. range_with_len (p * places_of n + first_index b) (index_count n b)) places
-        ∙ flat_same (λ p. flat_map (cells_behind ns bs) (range_with_len (p * places_of n + first_index b) (index_count n b))) (λ p. map (place_from p (n ∷ ns)) (covered (n ∷ ns) (b ∷ bs))) (step_at n ns b bs) places
+    ∙ flat_same (λ p. flat_map (cells_behind ns bs) (range_with_len (p * places_of n + first_index b) (index_count n b))) (λ p. map (place_from p (n ∷ ns)) (covered (n ∷ ns) (b ∷ bs))) (step_at n ns b bs) places
 
 pub places_done : (places : List ℕ) (bs : List Bracket) → from_places places [] bs ≡ places
 places_done [] bs = refl
@@ -138,8 +138,8 @@ room_step n b count most (p ∷ ps) h e room =
     let most_of : ((p * places_of n + first_index b) + index_count n b) * count ≤ ((p + 1) * places_of n) * count = mul-le-mul_right count inside in
     let regroup : ((p + 1) * places_of n) * count ≡ (p + 1) * (places_of n * count) = mul_assoc (p + 1) (places_of n) count in
     room_append count most (range_with_len (p * places_of n + first_index b) (index_count n b)) (widened_by n b ps)
-        (run_room count most (p * places_of n + first_index b) (index_count n b) (omega (arith, most_of, regroup, room.0)))
-        (room_step n b count most ps h e room.1)
+    (run_room count most (p * places_of n + first_index b) (index_count n b) (omega (arith, most_of, regroup, room.0)))
+    (room_step n b count most ps h e room.1)
 
 room_less : (n count most : ℕ) (places : List ℕ) → 1 ≤ count → HaveRoom (n * count) most places → HaveRoom n most places
 room_less n count most [] some h = tt

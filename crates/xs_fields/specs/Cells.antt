@@ -1,9 +1,9 @@
 -- The variables that a variable word denotes (XCSP3-core, arrays and compact forms: the cells that the brackets
 -- cover, in row-major order).
-use Rattle.std.specs.Prelude.{◌≡◌, ℕ, ◌+◌, ◌*◌, Bool, true, false, ◌<◌, ◌&&◌, bytes_eq, ℤ, pos, ◌-ℤ◌, nat_abs, int_le, int_lt, List, [], ◌∷◌, length, map, position, slice_index_or, Option, None, Some, if◌then◌else◌, Result, Ok, Err}
+use Rattle.std.specs.Prelude.{ℕ, ◌+◌, ◌*◌, Bool, true, false, ◌<◌, ◌&&◌, bytes_eq, ℤ, pos, ◌-ℤ◌, nat_abs, int_le, int_lt, List, [], ◌∷◌, length, map, slice_index_or, Option, None, Some, if◌then◌else◌, Result, Ok, Err}
 use Rattle.std.specs.List.{AllByRecursion, flat_map, filter_map, range_with_len}
+use Rattle.std.specs.Option.{option_map}
 use Rattle.std.specs.Result.{is_ok}
-use Rattle.xf_num.specs.Span.{Bounds}
 use Rattle.xs_model.specs.Names.{places_of}
 use Rattle.xs_model.specs.Outline.{Outline, cell_numbers, sizes_at}
 use Rattle.xs_fields.specs.Conditions.{all_meet}
@@ -18,7 +18,8 @@ use Rattle.xs_fields.specs.declared.variable.Word.{Word}
 
 -- the number of the declaration of a name
 abbrev pub declared_at : List Outline → List ℕ → Option ℕ
-declared_at os name = position (λ o. bytes_eq o.name name) os
+declared_at [] name = None
+declared_at (o ∷ os) name = if bytes_eq o.name name then Some 0 else option_map (λ at. at + 1) (declared_at os name)
 
 -- the indices of a bracket lie below the size
 abbrev pub is_inside : ℤ → Bracket → Bool
@@ -96,9 +97,13 @@ abbrev pub variables_in : Result (List ℕ) Condition → List ℕ
 variables_in (Ok vs) = vs
 variables_in (Err k) = []
 
+-- the variables that the bytes of a word denote
+abbrev pub variables_of : List Outline → List ℕ → List ℕ
+variables_of os word = variables_in (reached os (word_of word))
+
 -- the variables that a text denotes
 abbrev pub vars_of : List Outline → List ℕ → List ℕ
-vars_of os text = flat_map (λ w. variables_in (reached os (word_of w))) (words_of text)
+vars_of os text = flat_map (variables_of os) (words_of text)
 
 abbrev pub variable_words_meet : List Outline → List ℕ → Condition → Bool
 variable_words_meet os text = all_meet (variable_meets os) (words_of text)

@@ -1,8 +1,7 @@
 -- Variable words and what they denote (XCSP3-core, variables, arrays and compact forms).
-use Rattle.std.specs.Prelude.{ℕ, Bool, true, false, ◌&&◌, ℤ, List, [], ◌∷◌, Option, None, Some, Result, Ok, Err}
+use Rattle.std.specs.Prelude.{ℕ, Bool, true, false, ◌&&◌, List, [], ◌∷◌, Option, None, Some, Result, Ok, Err}
 use Rattle.std.specs.List.{flat_map, list_all}
 use Rattle.std.specs.Option.{option_map}
-use Rattle.xf_num.specs.Span.{Bounds}
 use Rattle.xs_fields.specs.Conditions.{all_meet, judged, meets}
 use Rattle.xs_fields.specs.Identifiers.{identifier_meets}
 use Rattle.xs_fields.specs.Integers.{integer_of, is_small}

@@ -17,9 +17,7 @@ fn is_inside(size: i128, bracket: Bracket) -> bool
 {
     match bracket {
         Bracket::At(index) => 0 <= index && index < size,
-        Bracket::Between(span) => {
-            0 <= span.lo() && span.lo() <= span.hi() && span.hi() < size
-        }
+        Bracket::Between(span) => { 0 <= span.lo() && span.lo() <= span.hi() && span.hi() < size }
         Bracket::Every => true,
     }
 }

@@ -18,6 +18,7 @@ mod pieces;
 mod runs;
 mod sizes;
 mod variable;
+mod variables;
 mod words;
 
 pub use condition::{Condition, earlier};
@@ -27,6 +28,7 @@ pub use pieces::{judge_pieces, read_pieces};
 pub use runs::{count_ints, judge_ints, read_ints};
 pub use sizes::{judge_sizes, read_sizes};
 pub use variable::{Bracket, Brackets, Word, judge_word, read_word};
+pub use variables::{count_vars, judge_vars, reach, read_vars};
 pub use words::{is_blank, next_word};
 
 #[cfg(test)]

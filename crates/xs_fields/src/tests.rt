@@ -1,6 +1,7 @@
 use crate::{
-    Condition, count_ints, earlier, is_blank, is_identifier, judge_identifier, judge_integer, judge_ints, judge_pieces,
-    judge_sizes, next_word, read_identifier, read_integer, read_ints, read_pieces, read_sizes,
+    Condition, count_ints, earlier, is_blank, is_identifier, judge_identifier, judge_integer,
+    judge_ints, judge_pieces, judge_sizes, next_word, read_identifier, read_integer, read_ints,
+    read_pieces, read_sizes,
 };
 use xf_text::{FieldStop, Kind};
 
@@ -16,7 +17,10 @@ fn lists_of_integers(rt: HostRuntime) {
         (b"0x3\n7", &[0, 0, 0, 7]),
         (b"-1x+2 007", &[-1, -1, 7]),
         (b"  5x1  ", &[5]),
-        (b"85070591730234615865843651857942052863", &[85070591730234615865843651857942052863]),
+        (
+            b"85070591730234615865843651857942052863",
+            &[85070591730234615865843651857942052863],
+        ),
     ];
     for (text, want) in accepted {
         match read_ints(rt.alloc(), text, 4) {
@@ -46,7 +50,10 @@ fn refused_lists_of_integers(rt: HostRuntime) {
         (b"85070591730234615865843651857942052864", Kind::Range),
         (b"-85070591730234615865843651857942052864", Kind::Range),
         (b"1x170141183460469231731687303715884105728", Kind::Range),
-        (b"1x99999999 85070591730234615865843651857942052864", Kind::Range),
+        (
+            b"1x99999999 85070591730234615865843651857942052864",
+            Kind::Range,
+        ),
         (b"1x99999999", Kind::Many),
         (b"1 2 3 4 5", Kind::Many),
     ];
@@ -85,10 +92,22 @@ fn domain_texts(rt: HostRuntime) {
         (b"0...1", Condition::Spelling),
         (b"1x2", Condition::Spelling),
         (b"1..2..3", Condition::Spelling),
-        (b"340282366920938463463374607431768211456..5", Condition::Spelling),
-        (b"340282366920938463463374607431768211457..340282366920938463463374607431768211456", Condition::Spelling),
-        (b"5..340282366920938463463374607431768211456", Condition::Magnitude),
-        (b"-340282366920938463463374607431768211457..-340282366920938463463374607431768211456", Condition::Magnitude),
+        (
+            b"340282366920938463463374607431768211456..5",
+            Condition::Spelling,
+        ),
+        (
+            b"340282366920938463463374607431768211457..340282366920938463463374607431768211456",
+            Condition::Spelling,
+        ),
+        (
+            b"5..340282366920938463463374607431768211456",
+            Condition::Magnitude,
+        ),
+        (
+            b"-340282366920938463463374607431768211457..-340282366920938463463374607431768211456",
+            Condition::Magnitude,
+        ),
     ];
     for (text, want) in refused {
         assert_eq!(rt; judge_pieces(text), Some(want));
@@ -101,7 +120,11 @@ fn domain_texts(rt: HostRuntime) {
 
 #[test]
 fn sizes_of_arrays(rt: HostRuntime) {
-    let accepted: [(&[u8], &[i128]); 3] = [(b"[2][3]", &[2, 3]), (b"[07]", &[7]), (b"[0][-1]", &[0, -1])];
+    let accepted: [(&[u8], &[i128]); 3] = [
+        (b"[2][3]", &[2, 3]),
+        (b"[07]", &[7]),
+        (b"[0][-1]", &[0, -1]),
+    ];
     for (text, want) in accepted {
         match read_sizes(rt.alloc(), text) {
             Ok(sizes) => assert_eq!(rt; sizes.as_slice(), want),
@@ -116,8 +139,14 @@ fn sizes_of_arrays(rt: HostRuntime) {
         (b"[2", Condition::Spelling),
         (b"[2]]", Condition::Spelling),
         (b"x[2]", Condition::Spelling),
-        (b"[85070591730234615865843651857942052864][", Condition::Spelling),
-        (b"[85070591730234615865843651857942052864]", Condition::Magnitude),
+        (
+            b"[85070591730234615865843651857942052864][",
+            Condition::Spelling,
+        ),
+        (
+            b"[85070591730234615865843651857942052864]",
+            Condition::Magnitude,
+        ),
     ];
     for (text, want) in refused {
         assert_eq!(rt; judge_sizes(text), Some(want));
@@ -163,6 +192,12 @@ fn words_and_conditions(rt: HostRuntime) {
         }
         None => assert!(rt; false),
     }
-    assert_eq!(rt; earlier(Some(Condition::Naming), Some(Condition::Spelling)), Some(Condition::Spelling));
-    assert_eq!(rt; earlier(None, Some(Condition::Fitting)), Some(Condition::Fitting));
+    assert_eq!(rt;
+        earlier(Some(Condition::Naming), Some(Condition::Spelling)),
+        Some(Condition::Spelling)
+    );
+    assert_eq!(rt;
+        earlier(None, Some(Condition::Fitting)),
+        Some(Condition::Fitting)
+    );
 }

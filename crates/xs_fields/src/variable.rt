@@ -53,7 +53,10 @@ impl Word {
     pub fn is_direct(&self) -> bool
         ensures { result ≡ is_direct self.now }
     {
-        self.brackets.as_slice().iter().all(|bracket| bracket.is_index())
+        self.brackets
+            .as_slice()
+            .iter()
+            .all(|bracket| bracket.is_index())
     }
 }
 
@@ -172,7 +175,7 @@ fn expand_brackets(alloc: Global, behind: Option<&[u8]>) -> Result<Brackets, NoM
 }
 
 /// The word of these bytes, of parts that miss nothing.
-fn expand_word(alloc: Global, word: &[u8]) -> Result<Word, NoMemory>
+pub fn expand_word(alloc: Global, word: &[u8]) -> Result<Word, NoMemory>
     ensures { IfOk result (λ w. w ≡ word_of word.now) }
 {
     let (name, behind) = cut(word, b'[');

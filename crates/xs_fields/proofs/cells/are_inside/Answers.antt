@@ -1,4 +1,3 @@
-use Rattle.std.proofs.Common.{arith}
 use Rattle.xs_fields.proofs.CellLemmas.{not_inside}
 use Rattle.xs_fields.proofs.cells.are_inside.Goals as goal
 

@@ -3,7 +3,7 @@ use Rattle.std.specs.Int.{w128}
 use Rattle.std.proofs.lemmas.List.{drop_all}
 use Rattle.xs_fields.specs.Cells.{HaveRoom, covered_places, widened_by}
 use Rattle.xs_model.specs.Names.{places_of}
-use Rattle.xs_fields.proofs.CellLemmas.{Standing, FitsNext, standing_first, standing_next, standing_cons, standing_done, fits_next, inside_same}
+use Rattle.xs_fields.proofs.CellLemmas.{Standing, standing_first, standing_next, standing_cons, standing_done, fits_next, inside_same}
 use Rattle.xs_fields.specs.declared.variable.Bracket.{Bracket}
 use Rattle.xs_fields.proofs.cells.covered.Goals as goal
 

@@ -1,6 +1,5 @@
-use Rattle.std.proofs.Common.{◌≡◌, ◌++◌, ◌^◌, drop}
-use Rattle.xs_model.specs.Names.{places_of}
-use Rattle.xs_fields.specs.Cells.{HaveRoom, widened_by}
+use Rattle.std.proofs.Common.{◌≡◌, ◌++◌, drop}
+use Rattle.xs_fields.specs.Cells.{widened_by}
 use Rattle.xs_fields.proofs.cells.widened.Given as goal
 
 abbrev pub invariant-loop-place : goal.invariant-loop-place
