@@ -30,3 +30,6 @@ pub use sizes::{judge_sizes, read_sizes};
 pub use variable::{Bracket, Brackets, Word, judge_word, read_word};
 pub use variables::{count_vars, judge_vars, reach, read_vars};
 pub use words::{is_blank, next_word};
+
+#[cfg(test)]
+mod tests;
