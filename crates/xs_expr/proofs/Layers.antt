@@ -1,5 +1,5 @@
 -- What the bounds and the value of each kind of expression are.
-use Rattle.std.proofs.Common.{◌≡◌, ℕ, ℤ, pos, refl, sym, ◌∙◌, ap, List, [], ◌∷◌, map, rules}
+use Rattle.std.proofs.Common.{◌≡◌, ℕ, ℤ, refl, ◌∙◌, ap, List, [], ◌∷◌, map, rules}
 use Rattle.xf_num.specs.Span.{Bounds}
 use Rattle.xs_model.specs.declared.expr.Op.{Op}
 use Rattle.xs_model.specs.declared.expr.Op.TheVariants.{Neg, Abs, Sqr, Add, Mul, Sub, Dist, Div, Mod, Pow, Min, Max, Lt, Le, Gt, Ge, Ne, Eq, Set, In, NotIn, Not, And, Or, Xor, Iff, Imp, If}

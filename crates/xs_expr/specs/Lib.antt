@@ -4,3 +4,4 @@ pub mod Operands
 pub mod Worths
 pub mod Laws
 pub mod Magnitude
+pub mod Weights

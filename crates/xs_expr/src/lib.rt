@@ -10,5 +10,5 @@ mod magnitude;
 mod worth;
 
 pub use limits::bounds;
-pub use magnitude::{judge, mag};
+pub use magnitude::{judge, judge_expr, mag, mag_expr};
 pub use worth::{value, values_are_bounded};
