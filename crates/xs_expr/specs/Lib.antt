@@ -3,3 +3,6 @@ pub mod Bounds
 pub mod Operands
 pub mod Worths
 pub mod Laws
+pub mod Magnitude
+pub mod Weights
+pub mod Text
