@@ -82,7 +82,8 @@ impl Held {
     }
 }
 
-fn truth_values() -> Span
+/// The values of a Boolean.
+pub fn truth_values() -> Span
     ensures { result ≡ record { lo = pos 0; hi = pos 1 } }
 {
     Span::new(0, 1).unwrap()
@@ -100,7 +101,7 @@ fn auxiliary_name(alloc: Global, number: u64) -> Result<Text, NoMemory>
 }
 
 /// The auxiliary with this number, which no solver prints.
-fn auxiliary(alloc: Global, number: u64, boolean: bool, span: Span) -> Result<FzVar, NoMemory>
+pub fn auxiliary(alloc: Global, number: u64, boolean: bool, span: Span) -> Result<FzVar, NoMemory>
     ensures { IfOk result (λ var. var ≡ auxiliary number boolean span) }
 {
     let name = auxiliary_name(alloc, number)?;

@@ -12,5 +12,5 @@ mod held;
 mod laws;
 
 pub use emit::{Emit, EmitStop};
-pub use held::Held;
+pub use held::{Held, auxiliary, truth_values};
 pub use laws::{joins, one_extension};

@@ -3,3 +3,4 @@ pub mod Bounds
 pub mod Operands
 pub mod Worths
 pub mod Laws
+pub mod Magnitude

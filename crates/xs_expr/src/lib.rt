@@ -6,7 +6,9 @@
 #![tactic(auto)]
 
 mod limits;
+mod magnitude;
 mod worth;
 
 pub use limits::bounds;
+pub use magnitude::{judge, mag};
 pub use worth::{value, values_are_bounded};

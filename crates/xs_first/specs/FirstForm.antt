@@ -1,14 +1,12 @@
 -- The first form of an instance: variables of one range each, and lists whose values differ pairwise.
-use Rattle.std.specs.Prelude.{◌≡◌, ◌≢◌, ℕ, ℤ, pos, neg_ℤ, nat_abs, ◌<◌, ◌≤◌, ◌≤ℤ◌, ◌-◌, ◌^◌, Bool, true, false, ◌&&◌, ◌||◌, nat_le, nat_eq, List, [], ◌∷◌, ◌++◌, length, slice_get, Some, map, sum, AllPairs, codes}
+use Rattle.std.specs.Prelude.{◌≡◌, ◌≢◌, ℕ, ℤ, pos, neg_ℤ, nat_abs, ◌<◌, ◌≤◌, ◌≤ℤ◌, ◌-◌, ◌^◌, Bool, true, false, List, [], ◌∷◌, ◌++◌, length, slice_get, Some, map, sum, AllPairs, codes}
 use Rattle.std.specs.List.{list_all}
 use Rattle.std.specs.Str.Parse.{digits_value}
-use Rattle.xf_num.specs.Span.{Bounds}
-use Rattle.xf_text.specs.declared.fault.Fault.{Fault}
 use Rattle.xf_text.specs.declared.fault.Kind.TheVariants.{Unknown}
 use Rattle.xf_text.specs.declared.fault.Stop.{Stop}
 use Rattle.xf_text.specs.declared.fault.Stop.TheVariants.{Refused, Memory}
 use Rattle.xs_model.specs.declared.decl.Decl.{Decl}
-use Rattle.xs_model.specs.declared.decl.Decl.TheVariants.{One, Array}
+use Rattle.xs_model.specs.declared.decl.Decl.TheVariants.{One}
 use Rattle.xs_model.specs.declared.instance.Constraint.{Constraint}
 use Rattle.xs_model.specs.declared.instance.Constraint.TheVariants.{AllDifferent}
 use Rattle.xs_model.specs.declared.instance.Instance.{Instance}

@@ -1,77 +1,38 @@
-ghost use Rattle.std.specs.Prelude.{◌≡◌, ◌≢◌, ◌≤◌, [], true, codes, length, map, nat_le, AllPairs, IfOk, IfSome, MatchBool, MatchOption};
-ghost use Rattle.std.specs.Option.{option_map};
-ghost use Rattle.xs_first.specs.FirstForm.{IsUse, IsPosted, IsFirstForm, Items, name_of, names_of, uses_of, used, most_variables, most_used};
-ghost use Rattle.xs_first.specs.Reading.{AreAll, IsStuck, keys_of, use_at, Posts, NoPosts, Finish, NoFinish};
+//! The constraints, and the limit on how many names they use.
+
+ghost use Rattle.std.specs.Prelude.{◌≡◌, ◌≢◌, ◌<◌, ◌≤◌, ◌↔◌, [], length, AllPairs, IfOk, IfSome, IsTrue, MatchOption};
+ghost use Rattle.xs_first.specs.FirstForm.{IsUse, IsPosted, Items, uses_of, used, most_variables, most_used};
+ghost use Rattle.xs_first.specs.Reading.{IsStuck, keys_of};
 ghost use Rattle.xs_model.specs.declared.instance.Constraint.TheVariants.{AllDifferent};
 
-use crate::tokens::{after, name};
-use indexmap::IndexSet;
+use crate::names::{Names, use_of};
+use crate::tokens::after;
 use std::alloc::Global;
 use xf_num::{NoMemory, Row, Vars};
-use xs_model::{Constraint, Constraints, Decl, Decls, Instance};
-
-/// At most so many variables.
-const MOST_VARIABLES: usize = 1_048_576;
+use xs_model::{Constraint, Constraints};
 
 /// At most so many names in all lists together.
 const MOST_USED: usize = 4_194_304;
 
-/// The names of the variables, in order of their numbers.
-type Names<'a> = IndexSet<&'a [u8]>;
-
-fn name_of(decl: &Decl) -> &[u8]
-    ensures { result.now ≡ name_of decl.now }
-{
-    match decl {
-        Decl::One { name, .. } => name.as_slice(),
-        Decl::Array { name, .. } => name.as_slice(),
-    }
-}
-
-/// Inserts the names, and says whether they differ.
-fn collect<'a>(decls: &'a [Decl], names: &mut Names<'a>) -> Result<bool, NoMemory>
-    requires { names.old.keys ≡ [] }
-    ensures ok { IfOk result (λ r. r ≡ true → keys_of names.new.keys ≡ names_of decls.now) }
-    ensures distinct { IfOk result (λ r. r ≡ true → AllPairs (λ a b. a ≢ b) (names_of decls.now)) }
-    ensures repeated { IfOk result (λ r. AllPairs (λ a b. a ≢ b) (names_of decls.now) → r ≡ true) }
-{
-    for decl in decls {
-        if !names.insert(name_of(decl))? {
-            return Ok(false);
-        }
-    }
-    Ok(true)
-}
-
-/// The number of the variable whose name stands at the front, and the bytes behind it and a space.
-#[tactic(auto, unfolding(crate::specs::Reading::use_at))]
-fn use_of<'a>(names: &Names<'_>, bytes: &'a [u8]) -> Option<(u32, &'a [u8])>
-    requires { length names.now.keys ≤ most_variables }
-    ensures value { option_map (λ x. (x.0, x.1.now)) result ≡ use_at (keys_of names.now.keys) bytes.now }
-    ensures within { IfSome result (λ x. length x.1.now < length bytes.now) }
-{
-    let (name, bytes) = name(bytes)?;
-    let bytes = after(bytes, b" ")?;
-    let number = names.get_index_of(name)?;
-    Some((number as u32, bytes))
-}
-
 /// Appends the numbers of the variables at the front, and answers the bytes behind them.
-fn read_uses<'a>(
-    names: &Names<'_>,
-    bytes: &'a [u8],
-    list: &mut Vars,
-) -> Result<&'a [u8], NoMemory>
+fn read_uses<'a>(names: &Names<'_>, bytes: &'a [u8], list: &mut Vars) -> Result<&'a [u8], NoMemory>
     requires few { length names.now.keys ≤ most_variables }
+    requires distinct { AllPairs (λ a b. a ≢ b) (keys_of names.now.keys) }
     requires none { list.old ≡ [] }
-    ensures { IfOk result (λ rest. AreAll (IsUse (keys_of names.now.keys)) bytes.now list.new rest.now) }
+    ensures uses { IfOk result (λ rest. Items (IsUse (keys_of names.now.keys)) bytes.now list.new rest.now) }
+    ensures all { IfOk result (λ rest. IsStuck (IsUse (keys_of names.now.keys)) rest.now) }
+    ensures within { IfOk result (λ rest. length rest.now ≤ length bytes.now) }
 {
     let mut rest = bytes;
-    while let Some((number, more)) = use_of(names, rest) {
-        list.push(number)?;
-        rest = more;
+    loop {
+        match use_of(names, rest) {
+            Some((number, more)) => {
+                list.push(number)?;
+                rest = more;
+            }
+            None => return Ok(rest),
+        }
     }
-    Ok(rest)
 }
 
 /// Appends the list of the constraint at the front, and answers the bytes behind it, if there is one.
@@ -81,8 +42,10 @@ fn posted<'a>(
     list: &mut Vars,
 ) -> Result<Option<&'a [u8]>, NoMemory>
     requires few { length names.now.keys ≤ most_variables }
+    requires distinct { AllPairs (λ a b. a ≢ b) (keys_of names.now.keys) }
     requires none { list.old ≡ [] }
-    ensures { IfOk result (λ r. MatchOption r (IsStuck (IsPosted (keys_of names.now.keys)) bytes.now) (λ rest. IsPosted (keys_of names.now.keys) bytes.now (AllDifferent list.new) rest.now)) }
+    ensures posted { IfOk result (λ r. MatchOption r (IsStuck (IsPosted (keys_of names.now.keys)) bytes.now) (λ rest. IsPosted (keys_of names.now.keys) bytes.now (AllDifferent list.new) rest.now)) }
+    ensures within { IfOk result (λ r. IfSome r (λ rest. length rest.now < length bytes.now)) }
 {
     match after(bytes, b"<allDifferent> ") {
         Some(uses) => {
@@ -91,4 +54,54 @@ fn posted<'a>(
         }
         None => Ok(None),
     }
+}
+
+/// Appends the constraints at the front, and answers the bytes behind them.
+pub fn read_constraints<'a>(
+    alloc: Global,
+    names: &Names<'_>,
+    bytes: &'a [u8],
+    constraints: &mut Constraints,
+) -> Result<&'a [u8], NoMemory>
+    requires few { length names.now.keys ≤ most_variables }
+    requires distinct { AllPairs (λ a b. a ≢ b) (keys_of names.now.keys) }
+    requires none { constraints.old ≡ [] }
+    ensures posts { IfOk result (λ rest. Items (IsPosted (keys_of names.now.keys)) bytes.now constraints.new rest.now) }
+    ensures all { IfOk result (λ rest. IsStuck (IsPosted (keys_of names.now.keys)) rest.now) }
+{
+    let mut rest = bytes;
+    loop {
+        let mut list = Row::new(alloc);
+        let found = posted(names, rest, &mut list)?;
+        match found {
+            Some(more) => {
+                constraints.push(Constraint::AllDifferent { list })?;
+                rest = more;
+            }
+            None => return Ok(rest),
+        }
+    }
+}
+
+fn uses_of(constraint: &Constraint) -> usize
+    ensures { result ≡ uses_of constraint.now }
+{
+    match constraint {
+        Constraint::AllDifferent { list } => list.len(),
+    }
+}
+
+/// Whether the constraints use at most as many names as an instance may.
+pub fn uses_fit(constraints: &[Constraint]) -> bool
+    ensures { IsTrue result ↔ (used constraints.now ≤ most_used) }
+{
+    let mut left = MOST_USED;
+    for constraint in constraints {
+        let count = uses_of(constraint);
+        if count > left {
+            return false;
+        }
+        left -= count;
+    }
+    true
 }

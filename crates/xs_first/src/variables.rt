@@ -1,6 +1,6 @@
-ghost use Rattle.std.specs.Prelude.{◌≡◌, [], IfOk};
-ghost use Rattle.xs_first.specs.FirstForm.{IsDecl};
-ghost use Rattle.xs_first.specs.Reading.{AreAll, decl_of};
+ghost use Rattle.std.specs.Prelude.{◌≡◌, ◌≤ℤ◌, [], IfOk};
+ghost use Rattle.xs_first.specs.FirstForm.{Items, IsDecl};
+ghost use Rattle.xs_first.specs.Reading.{IsStuck, decl_of};
 
 use crate::tokens::variable;
 use std::alloc::Global;
@@ -15,10 +15,12 @@ fn copied(alloc: Global, bytes: &[u8]) -> Result<Text, NoMemory>
     Ok(text)
 }
 
-fn declaration(alloc: Global, name: &[u8], span: Span) -> Result<Decl, NoMemory>
-    ensures { IfOk result (λ d. d ≡ decl_of name.now span) }
+fn declaration(alloc: Global, name: &[u8], lo: i128, hi: i128) -> Result<Decl, NoMemory>
+    requires { lo ≤ℤ hi }
+    ensures { IfOk result (λ d. d ≡ decl_of name.now (record { lo = lo; hi = hi })) }
 {
     let name = copied(alloc, name)?;
+    let span = Span::new(lo, hi).unwrap();
     let domain = Domain::of(span, alloc)?;
     Ok(Decl::One { name, domain })
 }
@@ -30,13 +32,18 @@ pub fn read_variables<'a>(
     decls: &mut Decls,
 ) -> Result<&'a [u8], NoMemory>
     requires { decls.old ≡ [] }
-    ensures { IfOk result (λ rest. AreAll IsDecl bytes.now decls.new rest.now) }
+    ensures declares { IfOk result (λ rest. Items IsDecl bytes.now decls.new rest.now) }
+    ensures all { IfOk result (λ rest. IsStuck IsDecl rest.now) }
 {
     let mut rest = bytes;
-    while let Some((name, span, more)) = variable(rest) {
-        let decl = declaration(alloc, name, span)?;
-        decls.push(decl)?;
-        rest = more;
+    loop {
+        match variable(rest) {
+            Some((name, lo, hi, more)) => {
+                let decl = declaration(alloc, name, lo, hi)?;
+                decls.push(decl)?;
+                rest = more;
+            }
+            None => return Ok(rest),
+        }
     }
-    Ok(rest)
 }

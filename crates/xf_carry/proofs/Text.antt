@@ -1,0 +1,33 @@
+-- The text of a lowered model in parts.
+use Rattle.std.proofs.Common.{◌≡◌, ℕ, ◌+◌, List, ◌++◌, length, ap, sym, ◌∙◌, arith}
+use Rattle.std.specs.List.{flat_map}
+use Rattle.std.proofs.lemmas.Grind.{flat_map-append}
+use Rattle.xs_model.specs.declared.instance.Instance.{Instance}
+use Rattle.xs_model.specs.Names.{words}
+use Rattle.xs_model.specs.Sound.{IsSound}
+use Rattle.fz_model.specs.declared.model.FzVar.{FzVar}
+use Rattle.fz_model.specs.declared.model.Goal.TheVariants.{Satisfy}
+use Rattle.fz_file.specs.Layout.{var_line, goal_line, names_of, layout}
+use Rattle.lo_names.specs.Shown.{shown_vars}
+use Rattle.lo_base.specs.Item.{Item, made}
+use Rattle.lo_base.specs.Lowered.{vars_of, calls_of}
+use Rattle.xf_carry.specs.Lines.{end_lines}
+use Rattle.xf_carry.specs.Lowered.{low, low_items}
+use Rattle.xf_carry.proofs.Before.{AreCallsBefore, names_alike, calls_alike, all_before}
+use Rattle.xf_carry.proofs.Extension.{shown_count}
+
+-- the named variables, and then the auxiliaries
+pub vars_text : (i : Instance) (named : List FzVar) → named ≡ shown_vars i.decls → flat_map var_line (low i).vars ≡ flat_map var_line named ++ flat_map var_line (vars_of 0 (low_items i))
+vars_text i named is =
+    flat_map-append var_line (shown_vars i.decls) (vars_of 0 (low_items i)) ∙ ap (λ vs. flat_map var_line vs ++ flat_map var_line (vars_of 0 (low_items i))) (sym is)
+
+-- the variables, and then the calls and the goal
+pub layout_text : (i : Instance) (named : List FzVar) → IsSound i → named ≡ shown_vars i.decls → layout (low i) ≡ flat_map var_line (low i).vars ++ end_lines named (low_items i)
+layout_text i named s is =
+    let vs : List FzVar = shown_vars i.decls in
+    let xs : List Item = low_items i in
+    let k : ℕ = length vs + made xs in
+    let before : AreCallsBefore k (calls_of xs) = all_before (length (words i.decls)) (length (words i.decls)) k i.constraints s.constraints (omega arith) (omega (arith, shown_count i s)) in
+    let calls = calls_alike k (names_of (vs ++ vars_of 0 xs)) (names_of vs) (names_alike vs xs) (calls_of xs) before in
+    ap (λ cs. flat_map var_line (low i).vars ++ (cs ++ goal_line (names_of vs) Satisfy)) calls
+    ∙ ap (λ ns. flat_map var_line (low i).vars ++ end_lines ns xs) (sym is)

@@ -1,0 +1,4 @@
+pub mod Lines
+pub mod Lowered
+pub mod Passes
+pub mod Writing

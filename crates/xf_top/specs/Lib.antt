@@ -1,0 +1,5 @@
+pub mod Words
+pub mod Answers
+pub mod Outcome
+pub mod Ends
+pub mod Theorem
