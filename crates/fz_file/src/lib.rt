@@ -8,6 +8,8 @@ mod argument;
 mod line;
 mod model;
 mod number;
+#[cfg(test)]
+mod tests;
 
 pub use line::{push_call, push_goal, push_var};
 pub use model::{call_line, goal_line, var_line, write_model};

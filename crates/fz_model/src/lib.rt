@@ -9,6 +9,8 @@ mod measure;
 mod model;
 mod rows;
 mod sums;
+#[cfg(test)]
+mod tests;
 mod worth;
 
 pub use build::{call_of, call_of_four, call_of_one, call_of_three, call_of_two, int_ne};

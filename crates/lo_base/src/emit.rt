@@ -116,3 +116,26 @@ pub trait Emit {
 
     ghost kept: { (a b : Self) (xs : List Item) → began a b xs → (named b ≡ named a) × (count a ≤ count b) × (faults a ≤ faults b) } = { λ a b xs g. (laws.began_named a b xs g, laws.began_count a b xs g, laws.began_faults a b xs g) };
 }
+
+#[cfg(test)]
+mod tests {
+    use super::*;
+    use std::test::Fail;
+
+    #[test]
+    fn causes_are_told(rt: HostRuntime) -> Result<(), Fail> {
+        for (stop, text) in [
+            (EmitStop::Memory, "out of memory"),
+            (EmitStop::Failed, "a write failed"),
+        ] {
+            assert_eq!(rt; stop.to_string(rt.alloc())?.as_str(), text);
+        }
+        Ok(())
+    }
+
+    #[test]
+    fn want_of_memory_is_told(rt: HostRuntime) {
+        assert_eq!(rt; EmitStop::from(NoMemory), EmitStop::Memory);
+        assert_eq!(rt; EmitStop::from(AllocError), EmitStop::Memory);
+    }
+}

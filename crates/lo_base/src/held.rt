@@ -1,6 +1,6 @@
 //! An object that keeps its items.
 
-ghost use Rattle.std.specs.Prelude.{◌≡◌, ◌≤◌, ◌++◌, [], length, IfOk, codes, pos};
+ghost use Rattle.std.specs.Prelude.{◌≡◌, ◌+◌, ◌≤◌, ◌^◌, ◌++◌, [], length, IfOk, OnOk, codes, pos};
 ghost use Rattle.std.specs.Fmt.{decimal};
 ghost use Rattle.lo_base.specs.Lowered.{auxiliary};
 
@@ -112,4 +112,86 @@ pub fn auxiliary(alloc: Global, number: u64, boolean: bool, span: Span) -> Resul
         domain,
         shown: false,
     })
+}
+
+#[cfg(test)]
+mod tests {
+    use super::*;
+    use fz_model::int_ne;
+    use std::test::Fail;
+
+    // An integer, a Boolean and a call of the first variable and the integer.
+    fn fill<E: Emit>(alloc: Global, out: &mut E) -> Result<(u64, u64), EmitStop>
+        requires { E.count out.old ≤ 2 ^ 60 }
+        ensures { OnOk result (E.count out.new ≡ E.count out.old + 2) }
+    {
+        let span = Span::new(-3, 5).unwrap();
+        let integer = out.new_int(span)?;
+        let boolean = out.new_bool()?;
+        out.post(int_ne(alloc, 0, integer)?)?;
+        Ok((integer, boolean))
+    }
+
+    fn first(alloc: Global) -> Result<FzVars, NoMemory>
+        ensures { IfOk result (λ vars. length vars ≡ 1) }
+    {
+        let mut name = Row::new(alloc);
+        name.extend(b"v_x")?;
+        let domain = Domain::of(Span::new(7, 9).unwrap(), alloc)?;
+        let mut vars = Row::new(alloc);
+        vars.push(FzVar {
+            name,
+            boolean: false,
+            domain,
+            shown: true,
+        })?;
+        Ok(vars)
+    }
+
+    #[test]
+    fn variables_are_kept_in_order(rt: HostRuntime) -> Result<(), Fail> {
+        let mut held = Held::new(rt.alloc(), first(rt.alloc())?);
+        assert_eq!(rt; fill(rt.alloc(), &mut held)?, (1, 2));
+        assert_eq!(rt; fill(rt.alloc(), &mut held)?, (3, 4));
+        let model = held.finish(Goal::Satisfy);
+        assert_eq!(rt; model.vars.len(), 5);
+        let wanted: [(&[u8], bool, i128, i128, bool); 5] = [
+            (b"v_x", false, 7, 9, true),
+            (b"a_0", false, -3, 5, false),
+            (b"a_1", true, 0, 1, false),
+            (b"a_2", false, -3, 5, false),
+            (b"a_3", true, 0, 1, false),
+        ];
+        for (var, (name, boolean, lo, hi, shown)) in model
+            .vars
+            .as_slice()
+            .iter()
+            .zip(wanted.iter())
+        {
+            assert_eq!(rt; var.name.as_slice(), *name);
+            assert_eq!(rt; (var.boolean, var.shown), (*boolean, *shown));
+            assert_eq!(rt;
+                (
+                    var.domain.ranges(),
+                    var.domain.least(),
+                    var.domain.greatest()
+                ),
+                (1, *lo, *hi)
+            );
+        }
+        Ok(())
+    }
+
+    #[test]
+    fn calls_and_goal_are_kept(rt: HostRuntime) -> Result<(), Fail> {
+        let mut held = Held::new(rt.alloc(), first(rt.alloc())?);
+        fill(rt.alloc(), &mut held)?;
+        let model = held.finish(Goal::Minimize(1));
+        assert_eq!(rt; model.goal, Goal::Minimize(1));
+        let calls = model.calls.as_slice();
+        assert_eq!(rt; calls.len(), 1);
+        assert_eq!(rt; calls[0].builtin.name(), b"int_ne".as_slice());
+        assert_eq!(rt; (calls[0].place, calls[0].args.len()), (0, 2));
+        Ok(())
+    }
 }

@@ -1,6 +1,7 @@
 //! One constraint.
 
-ghost use Rattle.std.specs.Prelude.{◌≡◌, ◌+◌, ◌≤◌, ◌^◌, OnOk, OnErr, IsErrOf, Contains, length};
+ghost use Rattle.std.specs.Prelude.{◌≡◌, ◌+◌, ◌≤◌, ◌^◌, OnOk, OnErr, IsErrOf, IfOk, Contains, length, [], ◌∷◌};
+ghost use Rattle.xs_model.specs.declared.instance.Constraint.TheVariants.{AllDifferent};
 ghost use Rattle.xf_text.specs.Outside.{Rose};
 ghost use Rattle.xs_model.specs.Names.{words};
 ghost use Rattle.xs_model.specs.Sound.{IsAccepted};
@@ -31,5 +32,52 @@ pub fn lower<E: Emit>(
 {
     match c {
         Constraint::AllDifferent { list } => lower_different(alloc, list.as_slice(), out),
+    }
+}
+
+#[cfg(test)]
+mod tests {
+    use super::*;
+    use fz_model::Goal;
+    use lo_base::Held;
+    use std::test::Fail;
+    use xf_num::Row;
+
+    // An instance of no variables, whose one constraint has an empty list.
+    fn instance(alloc: Global) -> Result<Instance, Fail>
+        ensures { IfOk result (λ i. i ≡ record { decls = []; constraints = AllDifferent [] ∷ [] }) }
+    {
+        let mut constraints = Row::new(alloc);
+        constraints.push(Constraint::AllDifferent {
+            list: Row::new(alloc),
+        })?;
+        Ok(Instance {
+            decls: Row::new(alloc),
+            constraints,
+        })
+    }
+
+    // What it lowers to is kept behind no variables.
+    fn nothing_yet(alloc: Global) -> Held
+        ensures named { result.named ≡ 0 }
+        ensures vars { result.vars ≡ [] }
+    {
+        Held::new(alloc, Row::new(alloc))
+    }
+
+    #[test]
+    fn an_empty_list_is_no_call(rt: HostRuntime) -> Result<(), Fail> {
+        let inst = instance(rt.alloc())?;
+        let mut held = nothing_yet(rt.alloc());
+        lower(
+            rt.alloc(),
+            &inst.constraints.as_slice()[0],
+            &inst,
+            &mut held,
+        )?;
+        let model = held.finish(Goal::Satisfy);
+        assert_eq!(rt; model.vars.len(), 0);
+        assert_eq!(rt; model.calls.len(), 0);
+        Ok(())
     }
 }

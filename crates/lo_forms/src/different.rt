@@ -37,3 +37,47 @@ pub(crate) fn lower_different<E: Emit>(
     }
     Ok(())
 }
+
+#[cfg(test)]
+mod tests {
+    use super::*;
+    use fz_model::{Arg, Call, Goal};
+    use lo_base::Held;
+    use std::test::Fail;
+    use xf_num::Row;
+
+    // The numbers of the two variables that a call names.
+    fn pair(call: &Call) -> Option<(u64, u64)> {
+        match call.args.as_slice() {
+            [Arg::Var(x), Arg::Var(y)] => Some((*x, *y)),
+            _ => None,
+        }
+    }
+
+    #[test]
+    fn each_pair_differs(rt: HostRuntime) -> Result<(), Fail> {
+        let tables: [(&[u32], &[(u64, u64)]); 5] = [
+            (&[], &[]),
+            (&[5], &[]),
+            (&[4, 2, 7], &[(4, 2), (4, 7), (2, 7)]),
+            (
+                &[0, 1, 2, 3],
+                &[(0, 1), (0, 2), (0, 3), (1, 2), (1, 3), (2, 3)],
+            ),
+            (&[6, 6], &[(6, 6)]),
+        ];
+        for (list, wanted) in tables {
+            let mut held = Held::new(rt.alloc(), Row::new(rt.alloc()));
+            lower_different(rt.alloc(), list, &mut held)?;
+            let model = held.finish(Goal::Satisfy);
+            assert_eq!(rt; model.vars.len(), 0);
+            assert_eq!(rt; model.calls.len(), wanted.len());
+            for (call, numbers) in model.calls.as_slice().iter().zip(wanted.iter()) {
+                assert_eq!(rt; call.builtin.name(), b"int_ne".as_slice());
+                assert_eq!(rt; call.place, 0);
+                assert_eq!(rt; pair(call), Some(*numbers));
+            }
+        }
+        Ok(())
+    }
+}

@@ -8,6 +8,8 @@ use Rattle.xf_markup.specs.Tokens.{Token, Opens, Closes, Remark, Says, cut_at, t
 use Rattle.xf_markup.specs.Tag.{are_distinct}
 use Rattle.xf_markup.specs.Head.{head_at}
 use Rattle.xf_markup.specs.Reading.{State, Next, next, next_cut, fitting, fits, fits_at, Reads, IsWhole, IsUnread, IsTooDeep, Tree, start, levels, opened, is_space}
+use Rattle.xf_markup.specs.Depth.{depth}
+use Rattle.xf_markup.proofs.DepthLemmas.{depth_is}
 use Rattle.xf_markup.proofs.ReadLemmas.{cut_nil}
 
 some_is : (a b : Next) → Some a ≡ Some b → a ≡ b
@@ -105,8 +107,8 @@ one_place text p q a b =
     let same = same_end (length text) start (drop (head_at text) text) a.tokens b.tokens a.end b.end a.rest b.rest a.read.reads a.stuck b.read.reads b.stuck in
     omega (arith, a.at, b.at, ap length same.2)
 
-pub not_tree_and_deep : (n : Node) (text : List ℕ) (p : ℕ) (tree : Tree n text) → tree.end.deepest ≤ levels → IsTooDeep p text → ⊥
-not_tree_and_deep n text p tree low deep = not_deep (length text) start (drop (head_at text) text) deep.tokens tree.tokens deep.end tree.end deep.rest tree.rest deep.beyond deep.read.reads deep.is_next deep.deep tree.reads (whole_stops (length text) tree.end tree.rest tree.whole) low
+pub not_tree_and_deep : (n : Node) (text : List ℕ) (p : ℕ) (tree : Tree n text) → depth n ≤ levels → IsTooDeep p text → ⊥
+not_tree_and_deep n text p tree low deep = not_deep (length text) start (drop (head_at text) text) deep.tokens tree.tokens deep.end tree.end deep.rest tree.rest deep.beyond deep.read.reads deep.is_next deep.deep tree.reads (whole_stops (length text) tree.end tree.rest tree.whole) (omega (arith, depth_is n text tree, low))
 
 pub not_unread_and_deep : (text : List ℕ) (p q : ℕ) → IsUnread q text → IsTooDeep p text → ⊥
 not_unread_and_deep text p q un deep = not_deep (length text) start (drop (head_at text) text) deep.tokens un.tokens deep.end un.end deep.rest un.rest deep.beyond deep.read.reads deep.is_next deep.deep un.read.reads un.stuck un.read.shallow

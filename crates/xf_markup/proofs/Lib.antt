@@ -1,6 +1,7 @@
 pub mod MarkLemmas
 pub mod CloseLemmas
 pub mod TakeLemmas
+pub mod DepthLemmas
 pub mod ReadLemmas
 pub mod Alone
 pub mod Unique

@@ -13,7 +13,8 @@ use Rattle.xf_text.specs.declared.fault.Stop.TheVariants.{Memory, Refused}
 use Rattle.xf_markup.specs.Tokens.{Token, cut_at, token, size}
 use Rattle.xf_markup.specs.Marks.{Shown, add, shown, nothing, flat, said}
 use Rattle.xf_markup.specs.Head.{head_at}
-use Rattle.xf_markup.specs.Reading.{State, next, next_cut, fitting, fits, Reads, Answers, IsFault, start}
+use Rattle.xf_markup.specs.Reading.{State, next, next_cut, fitting, fits, Reads, Answers, IsFault, Tree, start}
+use Rattle.xf_markup.proofs.DepthLemmas.{depth_is}
 use Rattle.xf_markup.specs.Growing.{SoFar, Stands, Takes, WentTooDeep, IsSound, begun_of, finished, root_marks, open_marks}
 
 pub reads_one : (total : ℕ) (s : State) (bytes : List ℕ) (ts : List Token) (end : State) (rest : List ℕ) (t : Token) (after : State) (more : List ℕ)
@@ -111,18 +112,17 @@ end_nil text = drop_all (length text) text (omega arith)
 
 ended : (text : List ℕ) (g : Growing) (root : Option Node) → SoFar text (length text) g → g.root ≡ root → Answers (finished (length text) root) text
 ended text g (Some n) so is =
-    let none : g.outer ≡ [] = outer_none g n g.outer so.matches.sound is in (
-      record {
-        tokens = so.tokens;
-        end = so.end;
-        rest = drop (length text) text;
-        before = g.lead;
-        reads = so.read.reads;
-        whole = (end_nil text, so.matches.names ∙ ap (map (λ (f : Frame). f.name)) none, so.matches.begun ∙ ap (λ r. begun_of r g.outer) is);
-        marks = ap (λ z. z.marks) so.shown ∙ ap (λ r. said g.lead ++ (r ++ open_marks g.outer g.pieces)) (ap root_marks is) ∙ ap (λ o. said g.lead ++ (flat n ++ open_marks o g.pieces)) none ∙ ap (λ z. said g.lead ++ z) (append-nil (flat n));
-      },
-      so.read.shallow,
-    )
+    let none : g.outer ≡ [] = outer_none g n g.outer so.matches.sound is in
+    let tree : Tree n text = record {
+      tokens = so.tokens;
+      end = so.end;
+      rest = drop (length text) text;
+      before = g.lead;
+      reads = so.read.reads;
+      whole = (end_nil text, so.matches.names ∙ ap (map (λ (f : Frame). f.name)) none, so.matches.begun ∙ ap (λ r. begun_of r g.outer) is);
+      marks = ap (λ z. z.marks) so.shown ∙ ap (λ r. said g.lead ++ (r ++ open_marks g.outer g.pieces)) (ap root_marks is) ∙ ap (λ o. said g.lead ++ (flat n ++ open_marks o g.pieces)) none ∙ ap (λ z. said g.lead ++ z) (append-nil (flat n));
+    } in
+    (tree, omega (arith, depth_is n text tree, so.read.shallow))
 ended text g None so is =
     inl (
       refl,

@@ -7,6 +7,8 @@ use Rattle.xf_markup.specs.declared.tree.Piece.{Piece, Piece-F, out-Piece, roll-
 use Rattle.xf_markup.specs.declared.tree.Attr.{Attr}
 use Rattle.xf_markup.specs.Names.{is_name, is_name_start}
 use Rattle.xf_markup.specs.Head.{head_at}
+use Rattle.xf_markup.specs.Depth.{depth}
+use Rattle.xf_markup.proofs.DepthLemmas.{depth_same}
 use Rattle.xf_markup.specs.Tag.{are_distinct}
 use Rattle.xf_markup.specs.Tokens.{Token, Opens, Closes, Says}
 use Rattle.xf_markup.specs.Marks.{Mark, Opened, Said, Closed, flat, flat_piece, flat_pieces, said, Shown, nothing, tagged, add, shown}
@@ -37,7 +39,7 @@ written_words w = fold-roll-Piece (List ℕ) (List ℕ) written_piece_step writt
 written_inner : (n : Node) → written_piece (roll-Piece (Piece-F.Inner n)) ≡ written n
 written_inner n = fold-roll-Piece (List ℕ) (List ℕ) written_piece_step written_node_step (Piece-F.Inner n)
 
-spelt_roll : (x : Node-F Piece Node) → is_spelt (roll-Node x) ≡ ((is_spelt_name x.name && (list_all is_spelt_attr x.attrs && are_distinct x.attrs)) && (list_all (λ (p : Shape). p.is_spelt) (map shape x.pieces) && are_apart (map shape x.pieces)))
+pub spelt_roll : (x : Node-F Piece Node) → is_spelt (roll-Node x) ≡ ((is_spelt_name x.name && (list_all is_spelt_attr x.attrs && are_distinct x.attrs)) && (list_all (λ (p : Shape). p.is_spelt) (map shape x.pieces) && are_apart (map shape x.pieces)))
 spelt_roll x = fold-roll-Node Shape Bool shape_piece_step spelt_node_step x
 
 shape_words : (w : List ℕ) → shape (roll-Piece (Piece-F.Words w)) ≡ record { is_text = true; is_spelt = is_spelt_text w }
@@ -269,7 +271,7 @@ written_head n ok =
     let tag = and_left (is_spelt_name x.name && (list_all is_spelt_attr x.attrs && are_distinct x.attrs)) _ all in
     ap (λ m. head_at (written m)) (sym (roll-out-Node n)) ∙ ap head_at (written_roll x) ∙ no_head x.name _ (and_left (is_spelt_name x.name) _ tag)
 
-pub round_trip : (n : Node) → is_spelt n ≡ true → (m : Node) × Tree m (written n) × (unplaced m ≡ unplaced n)
+pub round_trip : (n : Node) → is_spelt n ≡ true → (m : Node) × Tree m (written n) × (unplaced m ≡ unplaced n) × (depth m ≡ depth n)
 round_trip n ok =
     let text : List ℕ = written n in
     let got = all_read n ok (length text) start nothing [] (λ e. refl) in
@@ -285,4 +287,13 @@ round_trip n ok =
         marks = got.marks;
       },
       got.same,
+      depth_same got.tree n got.same,
     )
+
+pub leaf_spelt : (x : Node-F Piece Node) (n : ℕ) → x.name ≡ n ∷ [] → is_name_start n ≡ true → x.attrs ≡ [] → x.pieces ≡ [] → is_spelt (roll-Node x) ≡ true
+leaf_spelt x n named starts bare hollow =
+    spelt_roll x
+    ∙ ap (λ z. (is_spelt_name z && (list_all is_spelt_attr x.attrs && are_distinct x.attrs)) && (list_all (λ (p : Shape). p.is_spelt) (map shape x.pieces) && are_apart (map shape x.pieces))) named
+    ∙ ap (λ z. (is_spelt_name (n ∷ []) && (list_all is_spelt_attr z && are_distinct z)) && (list_all (λ (p : Shape). p.is_spelt) (map shape x.pieces) && are_apart (map shape x.pieces))) bare
+    ∙ ap (λ z. (is_spelt_name (n ∷ []) && true) && (list_all (λ (p : Shape). p.is_spelt) (map shape z) && are_apart (map shape z))) hollow
+    ∙ ap (λ t. ((t && true) && true) && true) starts

@@ -1,4 +1,5 @@
--- A tree, as the row of its tags and texts, and the row of marks that tokens come to.
+-- A tree, as the row of its tags and texts (XML 1.0, section 3 "Logical structures"), and the row of marks that tokens
+-- come to: a comment counts as one space.
 use Rattle.std.specs.Prelude.{ℕ, List, [], ◌∷◌, ◌++◌, map, if◌then◌else◌}
 use Rattle.xf_markup.specs.declared.tree.Node.{Node, Node-F, fold-Node}
 use Rattle.xf_markup.specs.declared.tree.Piece.{Piece, Piece-F, fold-Piece}

@@ -1,4 +1,4 @@
--- Names, and runs of bytes.
+-- Names, and runs of bytes (XML 1.0, section 2.3 "Names and tokens", here of ASCII letters alone).
 use Rattle.std.specs.Prelude.{ℕ, ◌+◌, ◌==◌, nat_le, Bool, ◌&&◌, ◌||◌, List, [], ◌∷◌, if◌then◌else◌}
 
 -- a byte that a name may begin with: an ASCII letter or `_`

@@ -1,4 +1,5 @@
--- Which tokens fit, the tree of a text, and the place of a fault.
+-- Which tokens fit, the tree of a text (XML 1.0, sections 2.1 "Well-formed documents" and 3.1), and the place of a
+-- fault.
 use Rattle.std.specs.Prelude.{◌≡◌, ◌⊎◌, ℕ, ◌+◌, ◌-◌, ◌≤◌, ◌<◌, max, ◌==◌, Bool, true, false, ◌||◌, not, List, [], ◌∷◌, ◌++◌, length, drop, Option, None, Some, if◌then◌else◌, Result, Ok, Err}
 use Rattle.std.specs.List.{list_all}
 use Rattle.std.specs.Str.{bytes_eq}
@@ -9,6 +10,7 @@ use Rattle.xf_text.specs.declared.fault.Kind.TheVariants.{Syntax, Depth}
 use Rattle.xf_text.specs.declared.fault.Fault.{Fault}
 use Rattle.xf_text.specs.declared.fault.Stop.{Stop}
 use Rattle.xf_text.specs.declared.fault.Stop.TheVariants.{Memory, Refused}
+use Rattle.xf_markup.specs.Depth.{depth}
 use Rattle.xf_markup.specs.Head.{head_at}
 use Rattle.xf_markup.specs.Tag.{are_distinct}
 use Rattle.xf_markup.specs.Tokens.{Token, Opens, Closes, Remark, Says, cut_at, token, size}
@@ -89,8 +91,7 @@ pub record Read (text : List ℕ) (tokens : List Token) (end : State) (rest : Li
 abbrev pub IsWhole : State → List ℕ → Type 0
 IsWhole end rest = (rest ≡ []) × (end.open_names ≡ []) × (end.begun ≡ true)
 
--- the tree of a text: its marks are those of the text's tokens, behind what stands before the element;
--- end.deepest is the number of its levels
+-- the tree of a text: its marks are those of the text's tokens, behind what stands before the element
 pub record Tree (n : Node) (text : List ℕ) : Type 0 where
   pub tokens : List Token
   pub end : State
@@ -134,7 +135,7 @@ IsFaultOf k place (Err (Refused f)) = f ≡ record { kind = k; place = place }
 
 -- the tree of a text, where it has no more than 200 levels
 abbrev pub ShallowTree : Node → List ℕ → Type 0
-ShallowTree n text = (tree : Tree n text) × (tree.end.deepest ≤ levels)
+ShallowTree n text = Tree n text × (depth n ≤ levels)
 
 -- the fault of a text
 abbrev pub IsFault : Fault → List ℕ → Type 0

@@ -1,4 +1,5 @@
--- The rest of an open tag behind its name.
+-- The rest of an open tag behind its name, and end tags (XML 1.0, sections 2.3 "White space", 2.3 "Literals" and 3.1
+-- "Start-tags, end-tags, and empty-element tags").
 use Rattle.std.specs.Prelude.{ℕ, suc, zero, ◌+◌, ◌==◌, Bool, true, false, ◌&&◌, ◌||◌, List, [], ◌∷◌, ◌++◌, length, take, drop, slice_index, ◌-◌, not, Option, None, Some, if◌then◌else◌}
 use Rattle.std.specs.Str.{bytes_eq}
 use Rattle.memchr.specs.Find.{places, first_of, is_byte2}

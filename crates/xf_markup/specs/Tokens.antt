@@ -1,4 +1,4 @@
--- The token that some bytes begin with.
+-- The token that some bytes begin with (XML 1.0, sections 2.4 "Character data and markup", 2.5 "Comments" and 3.1).
 use Rattle.std.specs.Prelude.{ℕ, ◌+◌, ◌≤◌, ⊤, nat_eq, ◌==◌, Bool, List, length, take, drop, codes, Option, None, Some, if◌then◌else◌}
 use Rattle.std.specs.List.{starts_with}
 use Rattle.std.specs.Option.{option_map, unwrap_or}

@@ -1,4 +1,5 @@
--- The bytes that a tree is written as, the trees that can be written, and a tree without its places.
+-- The bytes that a tree is written as, the trees that can be written (XML 1.0, sections 2.3, 2.4 and 3.1), and a tree
+-- without its places.
 use Rattle.std.specs.Prelude.{ℕ, ◌==◌, Bool, true, false, not, ◌&&◌, ◌||◌, List, [], ◌∷◌, ◌++◌, map, codes, if◌then◌else◌}
 use Rattle.std.specs.List.{list_all}
 use Rattle.xf_markup.specs.declared.tree.Node.{Node, Node-F, fold-Node, roll-Node}

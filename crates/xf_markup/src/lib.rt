@@ -18,6 +18,8 @@ mod head;
 mod names;
 mod read;
 mod tag;
+#[cfg(test)]
+mod tests;
 mod tree;
 mod write;
 

@@ -1,5 +1,6 @@
 ghost use Rattle.std.specs.Prelude.{◌≡◌, ◌++◌, [], map, true, IfOk, OnOk};
 ghost use Rattle.std.specs.List.{list_all};
+ghost use Rattle.xf_markup.specs.Depth.{depth};
 ghost use Rattle.xf_markup.specs.Reading.{Tree};
 ghost use Rattle.xf_markup.specs.Written.{is_other, quote_of, written_attrs, joined_bytes, written, written_piece, is_spelt, unplaced};
 ghost use Rattle.xf_markup.specs.declared.tree.Node.{Node};
@@ -77,12 +78,12 @@ fn put_node(node: &Node, out: &mut Vec<u8>) -> Result<(), NoMemory>
 /// The bytes of the tree: for each element an open tag, what it holds, and an end tag.
 ///
 /// It asks that each name, value and text is spelt as it must be, that no element has two attributes of one name, and
-/// that no text is empty or stands beside another. What it writes is read again as the same tree but for places. The
-/// error is want of memory.
+/// that no text is empty or stands beside another. What it writes has the same tree but for places, with as many
+/// levels. The error is want of memory.
 pub fn write_tree(alloc: Global, node: &Node) -> Result<Vec<u8>, NoMemory>
     requires { is_spelt node.now ≡ true }
     ensures bytes { IfOk result (λ text. text.items ≡ written node.now) }
-    ensures tree { IfOk result (λ text. (n : Node) × Tree n text.items × (unplaced n ≡ unplaced node.now)) }
+    ensures tree { IfOk result (λ text. (n : Node) × Tree n text.items × (unplaced n ≡ unplaced node.now) × (depth n ≡ depth node.now)) }
 {
     let mut out = Vec::new(alloc);
     put_node(node, &mut out)?;

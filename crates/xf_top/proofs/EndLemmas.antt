@@ -1,5 +1,5 @@
 -- What the end of a command says of the run.
-use Rattle.std.proofs.Common.{◌≡◌, ◌⊎◌, ℕ, ◌<◌, ◌≤◌, Option, Some, None, List, length, refl, arith, subst, sym, ◌∙◌, inl, inr}
+use Rattle.std.proofs.Common.{◌≡◌, ℕ, Option, Some, None, List, refl, arith, subst, sym, inl, inr}
 use Rattle.std.specs.Prelude.{IsSome, OnOk, OnErr, Result, Ok, Err}
 use Rattle.xf_text.specs.declared.fault.Fault.{Fault}
 use Rattle.xf_text.specs.declared.outside.Stored.{Stored}
@@ -62,9 +62,11 @@ pub refused_of : (files : Option (List Stored)) (oc : Option Command) (c : Comma
     → oc ≡ Some c → file ≡ file_of c ws → Ends (λ p. AtFile files file (λ bytes. ComesTo c bytes p)) read read' write write' old new answer
     → Says e e' said said' (line_of answer file) → status_of answer ≡ 2
     → (fault : Fault) × CommandComesTo files oc ws (Refuses fault) × Says e e' said said' (refusal_line fault (subject_of oc ws))
-refused_of files oc c ws file read read' write write' e e' old new said said' (Refused fault) is at ends says two =
-    (fault, to_words files oc c ws file (Refuses fault) is at ends.0,
-     subst (λ (w : List ℕ). Says e e' said said' (refusal_line fault w)) (subject_is oc c ws file is at) says)
+refused_of files oc c ws file read read' write write' e e' old new said said' (Refused fault) is at ends says two = (
+  fault,
+  to_words files oc c ws file (Refuses fault) is at ends.0,
+  subst (λ (w : List ℕ). Says e e' said said' (refusal_line fault w)) (subject_is oc c ws file is at) says,
+)
 refused_of files oc c ws file read read' write write' e e' old new said said' Done is at ends says two = cc
 refused_of files oc c ws file read read' write write' e e' old new said said' NotRead is at ends says two = cc
 refused_of files oc c ws file read read' write write' e e' old new said said' NotWritten is at ends says two = cc

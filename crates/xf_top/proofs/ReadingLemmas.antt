@@ -1,8 +1,7 @@
 -- What is known of a file that was read.
-use Rattle.std.proofs.Common.{◌≡◌, ℕ, ◌+◌, ◌<◌, ◌≤◌, Option, Some, None, List, length, refl, arith, subst, sym, inl, inr}
+use Rattle.std.proofs.Common.{◌≡◌, ℕ, ◌+◌, Option, Some, None, List, refl, arith, subst, inl}
 use Rattle.std.specs.Prelude.{IsSome, OnSome, IfSome, IfErr, Result, Ok, Err}
 use Rattle.xs_model.specs.declared.instance.Instance.{Instance}
-use Rattle.xf_text.specs.declared.fault.Fault.{Fault}
 use Rattle.xf_text.specs.declared.outside.Stored.{Stored}
 use Rattle.xf_text.specs.Outside.{bytes_at, file_named, Took}
 use Rattle.xf_top.specs.declared.answers.Answer.{Answer}

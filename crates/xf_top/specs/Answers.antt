@@ -1,5 +1,5 @@
 -- The answers of a run: the status of each, and the line that it writes.
-use Rattle.std.specs.Prelude.{◌≡◌, ◌⊎◌, ℕ, List, [], ◌++◌, codes, Option}
+use Rattle.std.specs.Prelude.{◌⊎◌, ℕ, List, [], ◌++◌, codes, Option}
 use Rattle.std.specs.Fmt.{decimal}
 use Rattle.xf_text.specs.Fault.{number_of}
 use Rattle.xf_text.specs.Outside.{Rose, Appended}

@@ -1,5 +1,5 @@
 -- The theorem of a conversion: the written model extends the instance that was read.
-use Rattle.std.specs.Prelude.{◌≡◌, ℕ, List, Option, Some, None}
+use Rattle.std.specs.Prelude.{◌≡◌, ℕ, List, Option}
 use Rattle.fz_file.specs.Layout.{layout}
 use Rattle.fz_model.specs.declared.model.Model.{Model}
 use Rattle.fz_model.specs.Solved as flat

@@ -16,9 +16,9 @@ mod words;
 
 use crate::engine::run;
 use crate::host::{HostShelf, HostSink};
+use std::env;
 use std::io::{self, Stderr, Stdout};
 use std::process::ExitCode;
-use std::env;
 use xf_text::{Sink, write_whole};
 
 /// The status where the words could not be taken.

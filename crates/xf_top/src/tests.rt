@@ -8,9 +8,11 @@ use std::test::Fail;
 use xf_num::{Ints, Row, Text};
 use xf_text::{MemShelf, MemSink, Stored};
 
-const PAIR: &[u8] = b"<instance format=\"XCSP3\" type=\"CSP\"><variables><var id=\"a\"> 0..1 </var><var id=\"b\"> 0..1 </var></variables><constraints><allDifferent> a b </allDifferent></constraints></instance>";
+const PAIR: &[u8] =
+    b"<instance format=\"XCSP3\" type=\"CSP\"><variables><var id=\"a\"> 0..1 </var><var id=\"b\"> 0..1 </var></variables><constraints><allDifferent> a b </allDifferent></constraints></instance>";
 
-const PAIR_MODEL: &[u8] = b"var 0..1: v_a :: output_var;\nvar 0..1: v_b :: output_var;\nconstraint int_ne(v_a,v_b);\nsolve satisfy;\n";
+const PAIR_MODEL: &[u8] =
+    b"var 0..1: v_a :: output_var;\nvar 0..1: v_b :: output_var;\nconstraint int_ne(v_a,v_b);\nsolve satisfy;\n";
 
 /// More bytes than a write takes at once.
 const WHOLE: usize = 1_000_000;
@@ -62,7 +64,13 @@ fn sink(alloc: Global, fails: &[i128], most: usize) -> Result<MemSink, Fail>
     Ok(MemSink::new(alloc, numbers(alloc, fails)?, most))
 }
 
-fn ran(alloc: Global, words: &[String], mut files: MemShelf, out: MemSink, mut err: MemSink) -> Ended {
+fn ran(
+    alloc: Global,
+    words: &[String],
+    mut files: MemShelf,
+    out: MemSink,
+    mut err: MemSink,
+) -> Ended {
     let (status, out) = run(alloc, words, &mut files, out, &mut err);
     Ended { status, out, err }
 }
@@ -71,7 +79,13 @@ fn ran(alloc: Global, words: &[String], mut files: MemShelf, out: MemSink, mut e
 fn run_on(alloc: Global, line: &str, bytes: &[u8]) -> Result<Ended, Fail> {
     let words = words_of(alloc, line)?;
     let files = shelf(alloc, text(alloc, bytes)?, &[])?;
-    Ok(ran(alloc, &words, files, sink(alloc, &[], WHOLE)?, sink(alloc, &[], WHOLE)?))
+    Ok(ran(
+        alloc,
+        &words,
+        files,
+        sink(alloc, &[], WHOLE)?,
+        sink(alloc, &[], WHOLE)?,
+    ))
 }
 
 #[test]
@@ -109,7 +123,13 @@ fn words_that_are_no_command_are_refused(rt: HostRuntime) -> Result<(), Fail> {
 fn no_words_are_refused(rt: HostRuntime) -> Result<(), Fail> {
     let alloc = rt.alloc();
     let files = shelf(alloc, text(alloc, PAIR)?, &[])?;
-    let ended = ran(alloc, &[], files, sink(alloc, &[], WHOLE)?, sink(alloc, &[], WHOLE)?);
+    let ended = ran(
+        alloc,
+        &[],
+        files,
+        sink(alloc, &[], WHOLE)?,
+        sink(alloc, &[], WHOLE)?,
+    );
     assert_eq!(rt; ended.status, 6);
     assert_eq!(rt; ended.err.bytes(), b"words refused\n".as_slice());
     Ok(())
@@ -141,7 +161,13 @@ fn a_failed_read_is_a_read_fault(rt: HostRuntime) -> Result<(), Fail> {
     let alloc = rt.alloc();
     let words = words_of(alloc, "to-fzn i.xml")?;
     let files = shelf(alloc, text(alloc, PAIR)?, &[2])?;
-    let ended = ran(alloc, &words, files, sink(alloc, &[], WHOLE)?, sink(alloc, &[], WHOLE)?);
+    let ended = ran(
+        alloc,
+        &words,
+        files,
+        sink(alloc, &[], WHOLE)?,
+        sink(alloc, &[], WHOLE)?,
+    );
     assert_eq!(rt; ended.status, 3);
     assert_eq!(rt; ended.out.bytes(), b"".as_slice());
     assert_eq!(rt; ended.err.bytes(), b"read fault in i.xml\n".as_slice());
@@ -153,7 +179,13 @@ fn a_failed_write_leaves_a_prefix(rt: HostRuntime) -> Result<(), Fail> {
     let alloc = rt.alloc();
     let words = words_of(alloc, "to-fzn i.xml")?;
     let files = shelf(alloc, text(alloc, PAIR)?, &[])?;
-    let ended = ran(alloc, &words, files, sink(alloc, &[2], 10)?, sink(alloc, &[], WHOLE)?);
+    let ended = ran(
+        alloc,
+        &words,
+        files,
+        sink(alloc, &[2], 10)?,
+        sink(alloc, &[], WHOLE)?,
+    );
     assert_eq!(rt; ended.status, 4);
     assert_eq!(rt; ended.out.bytes(), b"var 0..1: ".as_slice());
     assert_eq!(rt; ended.err.bytes(), b"write fault\n".as_slice());
@@ -165,7 +197,13 @@ fn a_failing_message_changes_no_status(rt: HostRuntime) -> Result<(), Fail> {
     let alloc = rt.alloc();
     let words = words_of(alloc, "to-fzn i.xml")?;
     let files = shelf(alloc, text(alloc, b"")?, &[])?;
-    let ended = ran(alloc, &words, files, sink(alloc, &[], WHOLE)?, sink(alloc, &[1], WHOLE)?);
+    let ended = ran(
+        alloc,
+        &words,
+        files,
+        sink(alloc, &[], WHOLE)?,
+        sink(alloc, &[1], WHOLE)?,
+    );
     assert_eq!(rt; ended.status, 2);
     assert_eq!(rt; ended.err.bytes(), b"".as_slice());
     Ok(())
@@ -187,9 +225,18 @@ fn a_file_of_more_than_64_mib_is_too_long(rt: HostRuntime) -> Result<(), Fail> {
     let alloc = rt.alloc();
     let words = words_of(alloc, "to-fzn i.xml")?;
     let files = shelf(alloc, spaces(alloc, 67_108_865)?, &[])?;
-    let ended = ran(alloc, &words, files, sink(alloc, &[], WHOLE)?, sink(alloc, &[], WHOLE)?);
+    let ended = ran(
+        alloc,
+        &words,
+        files,
+        sink(alloc, &[], WHOLE)?,
+        sink(alloc, &[], WHOLE)?,
+    );
     assert_eq!(rt; ended.status, 2);
     assert_eq!(rt; ended.out.bytes(), b"".as_slice());
-    assert_eq!(rt; ended.err.bytes(), b"refused F1 at 67108864 in i.xml\n".as_slice());
+    assert_eq!(rt;
+        ended.err.bytes(),
+        b"refused F1 at 67108864 in i.xml\n".as_slice()
+    );
     Ok(())
 }

@@ -1,16 +1,15 @@
 -- No node is at fault at values within bounds at which none is.
-use Rattle.std.proofs.Common.{◌≡◌, ℕ, zero, suc, ◌<◌, ℤ, pos, refl, sym, ◌∙◌, ap, subst, List, [], ◌∷◌, map, length, arith, All, rules, Result, Ok, Err, IsOk}
+use Rattle.std.proofs.Common.{◌≡◌, ℕ, suc, ℤ, refl, sym, ◌∙◌, ap, subst, List, [], ◌∷◌, map, length, arith, All, rules, Result, Ok, Err, IsOk}
 use Rattle.std.proofs.lemmas.Int.{ints}
 use Rattle.std.proofs.lemmas.List.Elements.{All-tail}
-use Rattle.xf_num.specs.Span.{Bounds, IsWithin}
+use Rattle.xf_num.specs.Span.{Bounds}
 use Rattle.xf_text.specs.declared.fault.Kind.{Kind}
 use Rattle.xs_model.specs.declared.expr.Op.{Op}
-use Rattle.xs_model.specs.declared.expr.Op.TheVariants.{Pow}
 use Rattle.xs_model.specs.declared.expr.Expr.TheVariants.{rolls-Node}
-use Rattle.xs_model.specs.declared.expr.Expr.{Expr, roll-Expr, out-Expr, out-roll-Expr, every-Expr, every_here-Expr, every_made-Expr, map-Expr, ind-Expr, fold-roll-Expr}
+use Rattle.xs_model.specs.declared.expr.Expr.{Expr, roll-Expr, out-Expr, out-roll-Expr, every_here-Expr, map-Expr, ind-Expr, fold-roll-Expr}
 use Rattle.xs_model.specs.declared.expr.Expr.TheOpen.{Expr-F}
-use Rattle.xs_expr.specs.Bounds.{bounds, bounds_step, limited, and_then, all_ok, prepended, node_bounds, exactly, operand, points, HasVariables, HasSpan, HasSpans}
-use Rattle.xs_expr.specs.Laws.{AreWithin, IsBounded, ValuesAreBounded}
+use Rattle.xs_expr.specs.Bounds.{bounds, bounds_step, and_then, all_ok, prepended, node_bounds, exactly, operand, points, HasVariables, HasSpan, HasSpans}
+use Rattle.xs_expr.specs.Laws.{AreWithin, ValuesAreBounded}
 use Rattle.xs_expr.specs.Shape.{IsCount, HasShape, IsShaped, IsPower, IsExponentLayer, ArePlaced}
 use Rattle.xs_expr.proofs.Every.{every-operands}
 use Rattle.xs_expr.proofs.Exponents.{literal-is}

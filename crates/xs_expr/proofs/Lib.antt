@@ -9,3 +9,4 @@ pub mod Within
 pub mod Sound
 pub mod Narrow
 pub mod Bounded
+pub mod Weighed

@@ -1,11 +1,10 @@
 -- Within narrower bounds no more nodes are at fault, and a node's bounds are narrower.
-use Rattle.std.proofs.Common.{◌≡◌, ℕ, zero, suc, ◌<◌, ℤ, pos, neg_ℤ, ◌≤ℤ◌, ◌+ℤ◌, ◌-ℤ◌, ◌*ℤ◌, refl, sym, ◌∙◌, ap, subst, Bool, true, false, ◌&&◌, if◌then◌else◌, List, [], ◌∷◌, map, length, arith, All, Result, Ok, Err}
-use Rattle.std.specs.Prelude.{int_le, int_div, int_rem}
+use Rattle.std.proofs.Common.{◌≡◌, ℕ, zero, suc, ℤ, pos, neg_ℤ, ◌≤ℤ◌, ◌+ℤ◌, ◌-ℤ◌, ◌*ℤ◌, refl, sym, ap, subst, Bool, true, false, ◌&&◌, if◌then◌else◌, List, [], ◌∷◌, arith, Result, Ok, Err}
+use Rattle.std.specs.Prelude.{int_le, int_div}
 use Rattle.std.specs.Int.{int_min, int_max}
 use Rattle.std.specs.List.{list_all}
 use Rattle.std.proofs.lemmas.Int.{ints, clamps}
 use Rattle.std.proofs.lemmas.Grind.{common_steps}
-use Rattle.std.proofs.lemmas.List.Elements.{All-tail}
 use Rattle.xf_num.specs.Span.{Bounds, IsWithin, IsHull, IsImageHull, HoldsImages, HoldsResults, add_ends, sub_ends, mul_ends, min_ends, max_ends, neg_ends, abs_ends, pow_ends, div_ends, rem_ends, join_ends, int_abs, int_pow}
 use Rattle.xf_num.proofs.Hulls.{add-IsHull, mul-IsHull}
 use Rattle.xf_num.proofs.Images.{sub-IsHull, min-IsHull, max-IsHull, neg-IsImageHull, abs-IsImageHull, pow-IsImageHull, div-IsHull}
@@ -16,7 +15,7 @@ use Rattle.xs_model.specs.declared.expr.Op.TheVariants.{Neg, Abs, Sqr, Add, Mul,
 use Rattle.xs_model.specs.Sound.{magnitudes}
 use Rattle.xs_model.specs.Value.{exponent_of}
 use Rattle.xs_expr.specs.Bounds.{limited, is_small, is_within_limit, exactly, truths, is_truth, is_divisible, operand, folded, folded_from, logic, node_bounds}
-use Rattle.xs_expr.proofs.Within.{AreSmall, picked, guarded, limited-is, no_fault}
+use Rattle.xs_expr.proofs.Within.{AreSmall, guarded, limited-is, no_fault}
 
 -- bounds within others
 pub record IsInside (c b : Bounds) : Type 0 where

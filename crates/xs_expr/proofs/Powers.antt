@@ -1,5 +1,5 @@
 -- The power of an expression is the library's.
-use Rattle.std.proofs.Common.{◌≡◌, ℕ, zero, suc, ℤ, pos, ◌*ℤ◌, refl, sym, ◌∙◌, ap}
+use Rattle.std.proofs.Common.{◌≡◌, ℕ, zero, suc, ℤ, ◌*ℤ◌, refl, ◌∙◌, ap}
 use Rattle.std.specs.Int.{int_pow as signed_pow}
 use Rattle.xf_num.specs.Span.{int_pow}
 use Rattle.xf_num.proofs.Powers.{pow-signed}

@@ -1,19 +1,18 @@
 -- A value lies within its expression's bounds, and fits with all that leads to it.
-use Rattle.std.proofs.Common.{◌≡◌, ℕ, zero, suc, ◌<◌, ◌≤◌, ℤ, pos, refl, sym, ◌∙◌, ap, subst, List, [], ◌∷◌, map, length, slice_index_or, arith, All, Result, Ok, Err, IsOk}
+use Rattle.std.proofs.Common.{◌≡◌, ℕ, zero, suc, ◌<◌, ◌≤◌, ℤ, refl, sym, ◌∙◌, ap, subst, List, [], ◌∷◌, map, length, arith, All, Result, Ok, Err, IsOk}
 use Rattle.std.proofs.lemmas.Int.{ints}
 use Rattle.std.proofs.lemmas.List.Elements.{All-tail}
 use Rattle.xf_num.specs.Span.{Bounds, IsWithin}
 use Rattle.xf_text.specs.declared.fault.Kind.{Kind}
 use Rattle.xs_model.specs.declared.expr.Op.{Op}
-use Rattle.xs_model.specs.declared.expr.Op.TheVariants.{Mul, Pow}
 use Rattle.xs_model.specs.declared.expr.Expr.TheVariants.{rolls-Node}
-use Rattle.xs_model.specs.declared.expr.Expr.{Expr, roll-Expr, out-Expr, out-roll-Expr, every-Expr, every_here-Expr, map-Expr, ind-Expr, fold-roll-Expr, fold_out-Expr, every_made-Expr}
+use Rattle.xs_model.specs.declared.expr.Expr.{Expr, roll-Expr, out-Expr, out-roll-Expr, every_here-Expr, map-Expr, ind-Expr, fold-roll-Expr, fold_out-Expr, every_made-Expr}
 use Rattle.xs_model.specs.declared.expr.Expr.TheOpen.{Expr-F}
-use Rattle.xs_model.specs.Value.{Worth, val, worth, worth_step, apply, at, values_of, second_members, number, node_worth}
-use Rattle.xs_expr.specs.Bounds.{bounds, bounds_step, limited, and_then, all_ok, prepended, node_bounds, exactly, operand, points, HasSpan, HasSpans}
+use Rattle.xs_model.specs.Value.{Worth, val, worth, worth_step, apply, at, second_members}
+use Rattle.xs_expr.specs.Bounds.{bounds, bounds_step, and_then, all_ok, prepended, node_bounds, exactly, operand, points, HasSpan, HasSpans}
 use Rattle.xs_expr.specs.Laws.{AreWithin}
 use Rattle.xs_expr.specs.Shape.{IsCount, HasShape, IsShaped, IsExponent, IsExponentLayer, IsPower, ArePlaced}
-use Rattle.xs_expr.specs.Worths.{Fits, FitsAt, FitsNode}
+use Rattle.xs_expr.specs.Worths.{Fits, FitsAt}
 use Rattle.xs_expr.proofs.Every.{every-operands}
 use Rattle.xs_expr.proofs.Exponents.{literal, literal-is}
 use Rattle.xs_expr.proofs.Layers.{values-are, node_worth-value}
@@ -94,11 +93,12 @@ module _ (ss : List Bounds) (a : List ℤ) (w : AreWithin ss a) where
       → (r : Result (List Bounds) Kind) → all_ok (map (bounds ss) es) ≡ r → and_then r (node_bounds op) ≡ Ok b → NodeHeld op b (map (val a) es) (second_members (map (worth a) es)) × ((bs : List Bounds) × Known es bs)
   node op es b count placed known (Err k) e h = cc
   node op es b count placed known (Ok bs) e h =
-      let k = known bs e in
-      ( node-held bs (map (val a) es) (second_members (map (worth a) es)) k.within b op h
+      let k = known bs e in (
+        node-held bs (map (val a) es) (second_members (map (worth a) es)) k.within b op h
             (λ is. some-values a es (subst (λ (o : Op). IsCount o (length es)) is count))
-            (λ is. exponent ss a es bs (subst (λ (o : Op). ArePlaced o es) is placed) e)
-      , (bs, k) )
+            (λ is. exponent ss a es bs (subst (λ (o : Op). ArePlaced o es) is placed) e),
+        (bs, k),
+      )
 
   at-layer : (y : Expr-F ((e : Expr) × Claim e)) → Claim (roll-Expr (map-Expr ((e : Expr) × Claim e) Expr (λ p. p.0) y))
   at-layer (Expr-F.Int z) d s b h =
@@ -120,11 +120,12 @@ module _ (ss : List Bounds) (a : List ℤ) (w : AreWithin ss a) where
       let is = sym (fold-roll-Expr (Result Bounds Kind) (bounds_step ss) (Expr-F.Node op es)) ∙ h in
       let n = node op es b shape.0 shape.1 (λ bs g. operands ps bs shapes spans g) (all_ok (map (bounds ss) es)) refl is in
       let value : val a (roll-Expr (Expr-F.Node op es)) ≡ apply op (map (val a) es) (second_members (map (worth a) es)) =
-          ap (λ (w : Worth). w.value) (fold-roll-Expr Worth (worth_step a) (Expr-F.Node op es))
-          ∙ node_worth-value op (map (worth a) es)
-          ∙ ap (λ (xs : List ℤ). apply op xs (second_members (map (worth a) es))) (values-are a es) in
-      ( subst (IsHeld b) (sym value) n.0.value
-      , every_made-Expr (FitsAt a) (Expr-F.Node op es) (Expr-F.Node op n.1.1.beside) (ap (Expr-F.Node op) n.1.1.same) (shape.0, n.0.fits) )
+      ap (λ (w : Worth). w.value) (fold-roll-Expr Worth (worth_step a) (Expr-F.Node op es))
+      ∙ node_worth-value op (map (worth a) es)
+      ∙ ap (λ (xs : List ℤ). apply op xs (second_members (map (worth a) es))) (values-are a es) in (
+        subst (IsHeld b) (sym value) n.0.value,
+        every_made-Expr (FitsAt a) (Expr-F.Node op es) (Expr-F.Node op n.1.1.beside) (ap (Expr-F.Node op) n.1.1.same) (shape.0, n.0.fits),
+      )
 
   pub bounds-sound : (e : Expr) → Claim e
   bounds-sound = ind-Expr Claim (λ x y is. subst (λ z. Claim (roll-Expr z)) is (at-layer y))

@@ -1,13 +1,12 @@
 -- A node's value lies within its bounds, and what leads to it fits.
-use Rattle.std.proofs.Common.{◌≡◌, ℕ, zero, suc, ◌<◌, ◌==◌, ◌%◌, ℤ, pos, neg_ℤ, ◌≤ℤ◌, ◌+ℤ◌, ◌-ℤ◌, ◌*ℤ◌, refl, sym, ◌∙◌, ap, subst, Bool, true, false, ◌&&◌, if◌then◌else◌, List, [], ◌∷◌, arith, Result, Ok, Err, FitsSigned}
+use Rattle.std.proofs.Common.{◌≡◌, ℕ, zero, suc, ◌==◌, ℤ, pos, neg_ℤ, ◌≤ℤ◌, ◌+ℤ◌, ◌-ℤ◌, ◌*ℤ◌, refl, sym, ◌∙◌, ap, subst, Bool, true, false, ◌&&◌, if◌then◌else◌, List, [], ◌∷◌, arith, Result, Ok, Err, FitsSigned}
 use Rattle.std.specs.Prelude.{int_le, int_lt, int_div, int_rem}
 use Rattle.std.specs.Int.{w128, int_min, int_max}
 use Rattle.std.specs.List.{list_all}
-use Rattle.std.proofs.lemmas.Int.{ints, clamps}
-use Rattle.std.proofs.lemmas.Grind.{common_steps}
+use Rattle.std.proofs.lemmas.Int.{ints}
 use Rattle.std.proofs.lemmas.Bool.Decides.{nat_tests}
 use Rattle.std.proofs.Math.IntN.{+ℤ_idl}
-use Rattle.xf_num.specs.Span.{Bounds, IsWithin, HoldsImages, HoldsResults, add_ends, sub_ends, mul_ends, min_ends, max_ends, neg_ends, abs_ends, pow_ends, div_ends, rem_ends, join_ends, int_abs, int_pow}
+use Rattle.xf_num.specs.Span.{Bounds, IsWithin, add_ends, sub_ends, mul_ends, min_ends, max_ends, neg_ends, abs_ends, pow_ends, div_ends, rem_ends, join_ends, int_abs, int_pow}
 use Rattle.xf_num.proofs.Hulls.{add-IsHull, mul-IsHull}
 use Rattle.xf_num.proofs.Images.{sub-IsHull, min-IsHull, max-IsHull, neg-IsImageHull, abs-IsImageHull, pow-IsImageHull, div-IsHull, rem-HoldsResults, join-IsJoin}
 use Rattle.xf_text.specs.declared.fault.Kind.{Kind}
@@ -17,12 +16,11 @@ use Rattle.xs_model.specs.declared.expr.Op.TheVariants.{Neg, Abs, Sqr, Add, Mul,
 use Rattle.xs_model.specs.Sound.{magnitudes}
 use Rattle.xs_model.specs.Value.{at, apply, truth, is_true, power, exponent_of, chosen}
 use Rattle.xs_expr.specs.declared.worth.Values.{Values}
-use Rattle.xs_expr.specs.Bounds.{limited, is_small, is_within_limit, exactly, truths, is_truth, is_divisible, operand, folded, folded_from, and_then, logic, node_bounds}
-use Rattle.xs_expr.specs.Laws.{AreWithin}
+use Rattle.xs_expr.specs.Bounds.{limited, is_small, is_within_limit, exactly, truths, is_truth, is_divisible, operand, folded, folded_from, logic, node_bounds}
 use Rattle.xs_expr.specs.Shape.{IsExponent}
-use Rattle.xs_expr.specs.Worths.{no_values, with_value, with_values, all_values, stepped, StepFits, StepsFit, NodeFits, FitsNode, node_value}
+use Rattle.xs_expr.specs.Worths.{no_values, with_value, with_values, all_values, stepped, StepFits, StepsFit, FitsNode}
 use Rattle.xs_expr.proofs.Powers.{power-is}
-use Rattle.xs_expr.proofs.Totals.{all-first, all-second, all-third, all-node}
+use Rattle.xs_expr.proofs.Totals.{all-first, all-second, all-node}
 
 -- an integer of at most the greatest magnitude
 pub record IsSmall (x : ℤ) : Type 0 where

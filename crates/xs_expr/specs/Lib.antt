@@ -4,3 +4,5 @@ pub mod Operands
 pub mod Worths
 pub mod Laws
 pub mod Magnitude
+pub mod Weights
+pub mod Text

@@ -1,13 +1,16 @@
 -- The magnitude of a constraint: the sum of the magnitudes of its items and the square of their number. It is the
 -- program's own measure of how great the sums can grow that a constraint leads to.
-use Rattle.std.specs.Prelude.{ℕ, ◌+◌, ◌*◌, nat_le, List, length, map, sum, Bool, if◌then◌else◌, Option, Some, None, Result, Ok, Err}
+use Rattle.std.specs.Prelude.{ℕ, ◌+◌, ◌*◌, nat_le, List, [], ◌∷◌, ◌++◌, length, map, sum, if◌then◌else◌, Option, Some, None, Result, Ok, Err}
+use Rattle.std.specs.List.{flat_map}
 use Rattle.xf_num.specs.Span.{Bounds, magnitude_of}
 use Rattle.xf_text.specs.declared.fault.Kind.{Kind}
-use Rattle.xf_text.specs.declared.fault.Kind.TheVariants.{Range}
+use Rattle.xf_text.specs.declared.fault.Kind.TheVariants.{Range, Logic}
 use Rattle.xs_model.specs.declared.instance.Constraint.{Constraint}
 use Rattle.xs_model.specs.declared.instance.Constraint.TheVariants.{AllDifferent}
+use Rattle.xs_model.specs.declared.expr.Expr.{Expr, fold-Expr}
+use Rattle.xs_model.specs.declared.expr.Expr.TheOpen.{Expr-F}
 use Rattle.xs_model.specs.Sound.{magnitudes}
-use Rattle.xs_expr.specs.Bounds.{operand}
+use Rattle.xs_expr.specs.Bounds.{bounds, limited, exactly, operand, all_ok, and_then, node_bounds, is_truth}
 
 -- items of these magnitudes
 abbrev pub total_of : List ℕ → ℕ
@@ -27,3 +30,47 @@ capped n = if nat_le n magnitudes then Some n else None
 -- no condition on the bounds in a constraint fails, or which does: its magnitude is past the greatest
 abbrev pub judged : List Bounds → Constraint → Result (Unit {0}) Kind
 judged spans c = if nat_le (mag spans c) magnitudes then Ok tt else Err Range
+
+-- the magnitude of a node: that of its bounds
+abbrev pub magnitude : Result Bounds Kind → ℕ
+magnitude (Ok b) = magnitude_of b
+magnitude (Err k) = 0
+
+-- the bounds of an expression, and the magnitudes of its nodes, operands before their node
+pub record Weight : Type 0 where
+  pub bounds : Result Bounds Kind
+  pub nodes : List ℕ
+
+-- a node over nodes of these magnitudes
+abbrev pub weight : Result Bounds Kind → List ℕ → Weight
+weight r below = record { bounds = r; nodes = below ++ (magnitude r ∷ []) }
+
+abbrev pub bounds_below : List Weight → List (Result Bounds Kind)
+bounds_below ws = map (λ w. w.bounds) ws
+
+abbrev pub nodes_below : List Weight → List ℕ
+nodes_below ws = flat_map (λ w. w.nodes) ws
+
+abbrev pub weight_step : List Bounds → Expr-F Weight → Weight
+weight_step spans (Expr-F.Int z) = weight (limited (exactly z)) []
+weight_step spans (Expr-F.Var v) = weight (limited (operand spans v)) []
+weight_step spans (Expr-F.Node op ws) = weight (and_then (all_ok (bounds_below ws)) (node_bounds op)) (nodes_below ws)
+
+abbrev pub weighed : List Bounds → Expr → Weight
+weighed spans = fold-Expr Weight (weight_step spans)
+
+-- the magnitude of an expression: each node is one item
+abbrev pub mag_expr : List Bounds → Expr → ℕ
+mag_expr spans e = total_of (weighed spans e).nodes
+
+-- an expression that is to be a truth value, where no node is at fault and its bounds are these
+abbrev pub judged_root : ℕ → Bounds → Result (Unit {0}) Kind
+judged_root m b = if is_truth b then (if nat_le m magnitudes then Ok tt else Err Range) else Err Logic
+
+abbrev pub judged_bounds : ℕ → Result Bounds Kind → Result (Unit {0}) Kind
+judged_bounds m (Ok b) = judged_root m b
+judged_bounds m (Err k) = Err k
+
+-- an expression that is to hold: the fault of the first node at fault, else that of the root, else its magnitude
+abbrev pub judged_expr : List Bounds → Expr → Result (Unit {0}) Kind
+judged_expr spans e = judged_bounds (mag_expr spans e) (bounds spans e)

@@ -1,9 +1,9 @@
 -- What a node asks of its operands' values, gathered from the left, and when that fits an i128.
-use Rattle.std.specs.Prelude.{ℕ, suc, ◌==◌, ◌<◌, ℤ, pos, neg_ℤ, ◌+ℤ◌, ◌-ℤ◌, ◌*ℤ◌, ◌≤ℤ◌, int_le, int_lt, List, [], ◌∷◌, length, map, Bool, not, if◌then◌else◌, ⊤, FitsSigned}
+use Rattle.std.specs.Prelude.{ℕ, suc, ◌==◌, ◌<◌, ℤ, pos, neg_ℤ, ◌+ℤ◌, ◌-ℤ◌, ◌*ℤ◌, ◌≤ℤ◌, int_le, int_lt, List, [], ◌∷◌, length, map, not, if◌then◌else◌, ⊤, FitsSigned}
 use Rattle.std.specs.Int.{w128, int_min, int_max}
 use Rattle.std.specs.Ordering.{int_eq}
 use Rattle.xs_model.specs.declared.expr.Op.{Op}
-use Rattle.xs_model.specs.declared.expr.Op.TheVariants.{Neg, Abs, Sqr, Add, Mul, Sub, Dist, Div, Mod, Pow, Min, Max, Lt, Le, Gt, Ge, Ne, Eq, Set, In, NotIn, Not, And, Or, Xor, Iff, Imp, If}
+use Rattle.xs_model.specs.declared.expr.Op.TheVariants.{Neg, Abs, Sqr, Add, Mul, Sub, Dist, Div, Mod, Pow, Min, Max, Lt, Le, Gt, Ge, Ne, Eq, Not, And, Or, Xor, Iff, Imp, If}
 use Rattle.xs_model.specs.declared.expr.Expr.{Expr, every-Expr}
 use Rattle.xs_model.specs.declared.expr.Expr.TheOpen.{Expr-F}
 use Rattle.xs_model.specs.Value.{val, truth, is_true, absolute, power, exponent_of, chosen, quotient, remainder}

@@ -14,7 +14,7 @@ const MAGNITUDE: i128 = (1 << 126) - 1;
 
 /// What a node asks of its operands' bounds.
 #[derive(Clone, Copy)]
-struct Operands {
+pub(crate) struct Operands {
     first: Span,
     second: Span,
     third: Span,
@@ -24,7 +24,7 @@ struct Operands {
     are_truths: bool,
 }
 
-fn only(value: i128) -> Span
+pub(crate) fn only(value: i128) -> Span
     ensures { result ≡ exactly value }
 {
     Span::new(value, value).unwrap()
@@ -37,7 +37,7 @@ fn truths() -> Span
     Span::new(0, 1).unwrap()
 }
 
-fn is_truth(span: Span) -> bool
+pub(crate) fn is_truth(span: Span) -> bool
     ensures { result ≡ is_truth span }
 {
     span.lo() >= 0 && span.hi() <= 1
@@ -50,7 +50,7 @@ fn is_divisible(dividend: Span, divisor: Span) -> bool
 }
 
 /// The bounds, where they are within the greatest magnitude.
-fn limited(span: Span) -> Result<Span, Kind>
+pub(crate) fn limited(span: Span) -> Result<Span, Kind>
     ensures { result ≡ limited span }
 {
     if span.lo() >= -MAGNITUDE && span.hi() <= MAGNITUDE {
@@ -104,7 +104,7 @@ fn joined(op: Op, a: Span, b: Span) -> Result<Span, Kind>
 }
 
 impl Operands {
-    fn none() -> Operands
+    pub(crate) fn none() -> Operands
         ensures { result ≡ none }
     {
         Operands {
@@ -117,7 +117,7 @@ impl Operands {
     }
 
     /// With the operand at a place, which is the next.
-    fn push(self, op: Op, at: usize, next: Span) -> Operands
+    pub(crate) fn push(self, op: Op, at: usize, next: Span) -> Operands
         ensures { result ≡ pushed op at self next }
     {
         let first = if at == 0 { next } else { self.first };
@@ -186,7 +186,7 @@ impl Operands {
     }
 
     /// The bounds of a node over these operands.
-    fn node(self, op: Op) -> Result<Span, Kind>
+    pub(crate) fn node(self, op: Op) -> Result<Span, Kind>
         requires { op ≡ Op.Pow → IsExponent self.second.lo }
         ensures { result ≡ node_of op self }
     {

@@ -120,7 +120,8 @@ impl Values {
             Op::Iff => i128::from(self.first == self.second),
             Op::Not => 1 - self.first,
             Op::If => self.chosen(),
-            Op::Add | Op::Mul | Op::Min | Op::Max | Op::Eq | Op::And | Op::Or | Op::Xor => self.total,
+            Op::Add | Op::Mul | Op::Min | Op::Max | Op::Eq | Op::And | Op::Or | Op::Xor =>
+                self.total,
             Op::Set | Op::In | Op::NotIn => self.total,
         }
     }
@@ -128,7 +129,11 @@ impl Values {
     fn chosen(self) -> i128
         ensures { result ≡ node_value Op.If self }
     {
-        if self.first == 1 { self.second } else { self.third }
+        if self.first == 1 {
+            self.second
+        } else {
+            self.third
+        }
     }
 }
 
@@ -149,8 +154,7 @@ pub fn value(e: &Expr, a: &[i128]) -> i128
 /// these, and its value lies within its bounds.
 pub fn values_are_bounded()
     ensures { ValuesAreBounded }
-{
-}
+{}
 
 #[cycle(value)]
 fn value_of(e: &Expr, a: &[i128]) -> i128

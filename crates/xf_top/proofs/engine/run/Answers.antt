@@ -1,4 +1,4 @@
-use Rattle.std.proofs.Common.{ℕ, rules, sym, ◌∙◌, subst}
+use Rattle.std.proofs.Common.{ℕ, sym, ◌∙◌, subst}
 use Rattle.xf_top.specs.Ends.{Completes}
 use Rattle.xf_top.proofs.EndLemmas.{refused_of, completes_of, says_of}
 use Rattle.xf_top.proofs.engine.run.Goals as goal
@@ -6,7 +6,7 @@ use Rattle.xf_top.proofs.engine.run.Goals as goal
 pub returns-in-Some-clause-refused : goal.returns-in-Some-clause-refused
 returns-in-Some-clause-refused g c = λ two.
     refused_of _ _ _ _ c.file_word-file.result.now _ _ _ _ _ _ _ _ _ _ c.carry_out-answer.result.0 (sym c.read_command.ensures ∙ c.in-Some.is) c.file_word-file.ensures c.carry_out-answer.ensures.ends
-        (says_of _ _ _ _ _ _ c.tell.ensures.ok c.tell.ensures.cause) (sym c.status.ensures ∙ two)
+    (says_of _ _ _ _ _ _ c.tell.ensures.ok c.tell.ensures.cause) (sym c.status.ensures ∙ two)
 
 pub returns-in-Some-clause-complete : goal.returns-in-Some-clause-complete
 returns-in-Some-clause-complete g c = λ s o h.
@@ -15,4 +15,4 @@ returns-in-Some-clause-complete g c = λ s o h.
     let write = g.W.Sink.faults c.args.out in
     let write' = g.W.Sink.faults c.carry_out-answer.result.1 in
     subst (λ (n : ℕ). Completes n read read' write write' o) (sym c.status.ensures)
-        (completes_of _ _ _ _ c.file_word-file.result.now read read' write write' _ _ c.carry_out-answer.result.0 (sym c.read_command.ensures ∙ c.in-Some.is) c.file_word-file.ensures c.carry_out-answer.ensures.ends s o h)
+    (completes_of _ _ _ _ c.file_word-file.result.now read read' write write' _ _ c.carry_out-answer.result.0 (sym c.read_command.ensures ∙ c.in-Some.is) c.file_word-file.ensures c.carry_out-answer.ensures.ends s o h)

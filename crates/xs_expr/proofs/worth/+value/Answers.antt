@@ -1,11 +1,11 @@
-use Rattle.std.proofs.Common.{◌≡◌, ℕ, ◌+◌, suc, ℤ, List, ◌∷◌, rules, arith, pos, map, drop, length, subst, ap, sym, ◌∙◌, to_z, of_z}
+use Rattle.std.proofs.Common.{◌≡◌, ℕ, ◌+◌, suc, ℤ, List, ◌∷◌, rules, arith, map, drop, length, subst, ap, sym, ◌∙◌, to_z, of_z}
 use Rattle.std.specs.Int.{w128}
 use Rattle.std.specs.List.{list_any}
 use Rattle.std.specs.Ordering.{int_eq}
 use Rattle.xs_model.specs.declared.expr.Op.{Op}
-use Rattle.xs_model.specs.declared.expr.Op.TheVariants.{In, NotIn, Set}
+use Rattle.xs_model.specs.declared.expr.Op.TheVariants.{In, NotIn}
 use Rattle.xs_model.specs.declared.expr.Expr.{Expr, Node, the_lemmas}
-use Rattle.xs_model.specs.Value.{val, worth, apply, at, second_members}
+use Rattle.xs_model.specs.Value.{val, worth, at, second_members}
 use Rattle.xs_expr.specs.Shape.{IsCount}
 use Rattle.xs_expr.specs.Worths.{Fits, FitsAt, StepsFit, NodeFits, all_values, no_values, with_value}
 use Rattle.xs_expr.proofs.Every.{every-operands, every-node, every-var}
@@ -19,30 +19,39 @@ value_of-bounds-a-variable t c = every-var (FitsAt c.args.a.now) _ _ c.in-Var.is
 
 pub value_of-is_member-requires : goal.value_of-is_member-requires
 value_of-is_member-requires t c =
-    let node = every-node (FitsAt c.args.a.now) _ _ _ c.in-Node.is c.requires in
-    ( search (rules, the_lemmas)
-    , ( every-operands (FitsAt c.args.a.now) _ _ _ _ c.in-Node.is c.as_slice.ensures c.requires
-      , ap length c.as_slice.ensures ∙ subst (λ op. IsCount op (length c.in-Node.items)) c.in-In.is node.0 ) )
+    let node = every-node (FitsAt c.args.a.now) _ _ _ c.in-Node.is c.requires in (
+      search (rules, the_lemmas),
+      (
+        every-operands (FitsAt c.args.a.now) _ _ _ _ c.in-Node.is c.as_slice.ensures c.requires,
+        ap length c.as_slice.ensures ∙ subst (λ op. IsCount op (length c.in-Node.items)) c.in-In.is node.0,
+      ),
+    )
 
 pub value_of-is_member-requires-in-NotIn : goal.value_of-is_member-requires-in-NotIn
 value_of-is_member-requires-in-NotIn t c =
-    let node = every-node (FitsAt c.args.a.now) _ _ _ c.in-Node.is c.requires in
-    ( search (rules, the_lemmas)
-    , ( every-operands (FitsAt c.args.a.now) _ _ _ _ c.in-Node.is c.as_slice-in-NotIn.ensures c.requires
-      , ap length c.as_slice-in-NotIn.ensures ∙ subst (λ op. IsCount op (length c.in-Node.items)) c.in-NotIn.is node.0 ) )
+    let node = every-node (FitsAt c.args.a.now) _ _ _ c.in-Node.is c.requires in (
+      search (rules, the_lemmas),
+      (
+        every-operands (FitsAt c.args.a.now) _ _ _ _ c.in-Node.is c.as_slice-in-NotIn.ensures c.requires,
+        ap length c.as_slice-in-NotIn.ensures ∙ subst (λ op. IsCount op (length c.in-Node.items)) c.in-NotIn.is node.0,
+      ),
+    )
 
 pub value_of-values_of-values-requires : goal.value_of-values_of-values-requires
 value_of-values_of-values-requires t c =
-    let node = every-node (FitsAt c.args.a.now) _ _ _ c.in-Node.is c.requires in
-    ( search (rules, the_lemmas)
-    , ( every-operands (FitsAt c.args.a.now) _ _ _ _ c.in-Node.is c.as_slice-in_default.ensures c.requires
-      , subst (λ (es : List Expr). StepsFit c.in-Node.op 0 (no_values c.in-Node.op) (map (val c.args.a.now) es)) (sym c.as_slice-in_default.ensures) node.1.0 ) )
+    let node = every-node (FitsAt c.args.a.now) _ _ _ c.in-Node.is c.requires in (
+      search (rules, the_lemmas),
+      (
+        every-operands (FitsAt c.args.a.now) _ _ _ _ c.in-Node.is c.as_slice-in_default.ensures c.requires,
+        subst (λ (es : List Expr). StepsFit c.in-Node.op 0 (no_values c.in-Node.op) (map (val c.args.a.now) es)) (sym c.as_slice-in_default.ensures) node.1.0,
+      ),
+    )
 
 pub value_of-node-requires : goal.value_of-node-requires
 value_of-node-requires t c =
     let node = every-node (FitsAt c.args.a.now) _ _ _ c.in-Node.is c.requires in
     subst (NodeFits c.in-Node.op) (sym c.values_of-values.ensures)
-        (subst (λ (es : List Expr). NodeFits c.in-Node.op (all_values c.in-Node.op (map (val c.args.a.now) es))) (sym c.as_slice-in_default.ensures) node.1.1)
+    (subst (λ (es : List Expr). NodeFits c.in-Node.op (all_values c.in-Node.op (map (val c.args.a.now) es))) (sym c.as_slice-in_default.ensures) node.1.1)
 
 pub value_of-returns-in-In : goal.value_of-returns-in-In
 value_of-returns-in-In t c =
@@ -75,9 +84,10 @@ values_of-loop-at-preserved t c =
 
 pub is_member-contains-requires : goal.is_member-contains-requires
 is_member-contains-requires t c =
-    let second = subst (Fits c.args.a.now) (sym c.index-items-1.is) (c.requires.all 1 c.index-items-1.result (omega arith)) in
-    ( search (rules, the_lemmas)
-    , every-operands (FitsAt c.args.a.now) _ _ _ _ c.in-Node.is c.as_slice.ensures second )
+    let second = subst (Fits c.args.a.now) (sym c.index-items-1.is) (c.requires.all 1 c.index-items-1.result (omega arith)) in (
+      search (rules, the_lemmas),
+      every-operands (FitsAt c.args.a.now) _ _ _ _ c.in-Node.is c.as_slice.ensures second,
+    )
 
 pub is_member-returns-in-Set : goal.is_member-returns-in-Set
 is_member-returns-in-Set t c =

@@ -10,7 +10,7 @@ pow-requires c =
     let base : to_z w128 (of_z w128 c.args.base) ≡ c.args.base = search rules in
     let k : c.exponent.result ≡ exponent_of c.args.times = c.exponent.ensures.value ∙ ap exponent_of same in
     let fits : FitsSigned w128 (int_pow c.args.base c.exponent.result) = subst (λ (k : ℕ). FitsSigned w128 (int_pow c.args.base k)) (sym k)
-        (subst (FitsSigned w128) (power-signed c.args.base (exponent_of c.args.times)) c.requires.fits) in
+    (subst (FitsSigned w128) (power-signed c.args.base (exponent_of c.args.times)) c.requires.fits) in
     subst (λ (b : ℤ). FitsSigned w128 (int_pow b c.exponent.result)) (sym base) fits
 
 pub returns : goal.returns

@@ -1,0 +1,17 @@
+use Rattle.std.proofs.Common.{ap, sym, ◌∙◌}
+use Rattle.xs_expr.specs.Magnitude.{weighed, mag_expr, judged_bounds}
+use Rattle.xs_expr.proofs.Weighed.{weighed-bounds, counted-is, fault-is}
+use Rattle.xs_expr.proofs.magnitude.judge_expr.Goals as goal
+
+pub returns-in-Ok : goal.returns-in-Ok
+returns-in-Ok c =
+    let w = weighed c.args.spans.now c.args.e.now in
+    let known = counted-is w c.in-Ok.counted (sym c.count_nodes.ensures ∙ c.in-Ok.is) in
+    c.judge_root.ensures w.nodes known.1
+    ∙ ap (judged_bounds (mag_expr c.args.spans.now c.args.e.now)) (sym known.0 ∙ weighed-bounds c.args.spans.now c.args.e.now)
+
+pub returns-in-Err : goal.returns-in-Err
+returns-in-Err c =
+    let w = weighed c.args.spans.now c.args.e.now in
+    let known = fault-is w.bounds w.nodes c.in-Err.kind (sym c.count_nodes.ensures ∙ c.in-Err.is) in
+    ap (judged_bounds (mag_expr c.args.spans.now c.args.e.now)) (sym known ∙ weighed-bounds c.args.spans.now c.args.e.now)

@@ -1,0 +1,16 @@
+use Rattle.std.proofs.Common.{sym, ◌∙◌}
+use Rattle.xs_expr.specs.Magnitude.{weighed, total_of}
+use Rattle.xs_expr.proofs.Weighed.{weighed-bounds, counted-is, fault-is, no-fault}
+use Rattle.xs_expr.proofs.magnitude.mag_expr.Goals as goal
+
+pub returns-in-Ok : goal.returns-in-Ok
+returns-in-Ok c =
+    let w = weighed c.args.spans.now c.args.e.now in
+    let known = counted-is w c.in-Ok.counted (sym c.count_nodes.ensures ∙ c.in-Ok.is) in
+    c.small.ensures (total_of w.nodes) (c.whole.ensures w.nodes known.1)
+
+pub returns-in-Err : goal.returns-in-Err
+returns-in-Err c =
+    let w = weighed c.args.spans.now c.args.e.now in
+    let known = fault-is w.bounds w.nodes c.in-Err.field-0 (sym c.count_nodes.ensures ∙ c.in-Err.is) in
+    absurd (no-fault _ c.in-Err.field-0 (sym (weighed-bounds c.args.spans.now c.args.e.now) ∙ known) c.requires.bounded)
