@@ -169,18 +169,24 @@ fn call_lines(rt: HostRuntime) -> Result<(), Fail> {
         named,
         b"constraint int_lin_eq([1,-1],[v_b_1,a_0],-3);\n",
     )?;
+    Ok(())
+}
+
+#[test]
+fn clause_lines(rt: HostRuntime) -> Result<(), Fail> {
+    let alloc = rt.alloc();
     let clause = call_of_two(
         alloc,
         Builtin::BoolClause,
         variables(alloc, &[])?,
-        variables(alloc, &[2])?,
+        variables(alloc, &[3])?,
     )?;
     check_call(
         &rt,
         alloc,
         &clause,
-        named,
-        b"constraint bool_clause([],[a_0]);\n",
+        &[],
+        b"constraint bool_clause([],[a_3]);\n",
     )?;
     Ok(())
 }

@@ -98,3 +98,50 @@ pub fn int_ne(alloc: Global, x: u64, y: u64) -> Result<Call, NoMemory>
 {
     call_of_two(alloc, Builtin::IntNe, Arg::Var(x), Arg::Var(y))
 }
+
+#[cfg(test)]
+mod tests {
+    use super::*;
+    use std::test::Fail;
+
+    #[test]
+    fn made_calls(rt: HostRuntime) -> Result<(), Fail> {
+        let alloc = rt.alloc();
+        let ne = int_ne(alloc, 4, 7)?;
+        assert_eq!(rt; ne.builtin, Builtin::IntNe);
+        assert_eq!(rt; ne.place, 0);
+        assert!(rt; matches!(ne.args.as_slice(), [Arg::Var(4), Arg::Var(7)]));
+        let one = call_of_one(alloc, Builtin::ArrayBoolXor, Arg::List(Row::new(alloc)))?;
+        assert!(rt; matches!(one.args.as_slice(), [Arg::List(_)]));
+        let two = call_of_two(alloc, Builtin::IntLe, Arg::Int(1), Arg::Var(2))?;
+        assert!(rt; matches!(two.args.as_slice(), [Arg::Int(1), Arg::Var(2)]));
+        let three = call_of_three(
+            alloc,
+            Builtin::BoolAnd,
+            Arg::Var(1),
+            Arg::Bool(true),
+            Arg::Var(2),
+        )?;
+        assert!(rt;
+            matches!(
+                three.args.as_slice(),
+                [Arg::Var(1), Arg::Bool(true), Arg::Var(2)]
+            )
+        );
+        let four = call_of_four(
+            alloc,
+            Builtin::IntLinLeReif,
+            Arg::Var(1),
+            Arg::Var(2),
+            Arg::Int(3),
+            Arg::Var(4),
+        )?;
+        assert!(rt;
+            matches!(
+                four.args.as_slice(),
+                [Arg::Var(1), Arg::Var(2), Arg::Int(3), Arg::Var(4)]
+            )
+        );
+        Ok(())
+    }
+}

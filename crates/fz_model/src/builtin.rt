@@ -153,3 +153,74 @@ fn find(all: &[Builtin], name: &[u8]) -> Option<Builtin>
     }
     None
 }
+
+#[cfg(test)]
+mod tests {
+    use super::*;
+
+    const NAMES: [(Builtin, &[u8]); 47] = [
+        (Builtin::IntLinEq, b"int_lin_eq"),
+        (Builtin::IntLinNe, b"int_lin_ne"),
+        (Builtin::IntLinLe, b"int_lin_le"),
+        (Builtin::IntLinEqReif, b"int_lin_eq_reif"),
+        (Builtin::IntLinNeReif, b"int_lin_ne_reif"),
+        (Builtin::IntLinLeReif, b"int_lin_le_reif"),
+        (Builtin::IntEq, b"int_eq"),
+        (Builtin::IntNe, b"int_ne"),
+        (Builtin::IntLe, b"int_le"),
+        (Builtin::IntLt, b"int_lt"),
+        (Builtin::IntEqReif, b"int_eq_reif"),
+        (Builtin::IntNeReif, b"int_ne_reif"),
+        (Builtin::IntLeReif, b"int_le_reif"),
+        (Builtin::IntLtReif, b"int_lt_reif"),
+        (Builtin::IntAbs, b"int_abs"),
+        (Builtin::IntPlus, b"int_plus"),
+        (Builtin::IntTimes, b"int_times"),
+        (Builtin::IntDiv, b"int_div"),
+        (Builtin::IntMod, b"int_mod"),
+        (Builtin::IntMin, b"int_min"),
+        (Builtin::IntMax, b"int_max"),
+        (Builtin::ArrayIntMinimum, b"array_int_minimum"),
+        (Builtin::ArrayIntMaximum, b"array_int_maximum"),
+        (Builtin::ArrayIntElement, b"array_int_element"),
+        (Builtin::ArrayVarIntElement, b"array_var_int_element"),
+        (Builtin::ArrayBoolElement, b"array_bool_element"),
+        (Builtin::ArrayVarBoolElement, b"array_var_bool_element"),
+        (Builtin::Bool2Int, b"bool2int"),
+        (Builtin::BoolEq, b"bool_eq"),
+        (Builtin::BoolLe, b"bool_le"),
+        (Builtin::BoolLt, b"bool_lt"),
+        (Builtin::BoolEqReif, b"bool_eq_reif"),
+        (Builtin::BoolLeReif, b"bool_le_reif"),
+        (Builtin::BoolLtReif, b"bool_lt_reif"),
+        (Builtin::BoolNot, b"bool_not"),
+        (Builtin::BoolAnd, b"bool_and"),
+        (Builtin::BoolOr, b"bool_or"),
+        (Builtin::BoolXor, b"bool_xor"),
+        (Builtin::BoolClause, b"bool_clause"),
+        (Builtin::BoolClauseReif, b"bool_clause_reif"),
+        (Builtin::ArrayBoolAnd, b"array_bool_and"),
+        (Builtin::ArrayBoolOr, b"array_bool_or"),
+        (Builtin::ArrayBoolXor, b"array_bool_xor"),
+        (Builtin::BoolLinEq, b"bool_lin_eq"),
+        (Builtin::BoolLinLe, b"bool_lin_le"),
+        (Builtin::SetIn, b"set_in"),
+        (Builtin::SetInReif, b"set_in_reif"),
+    ];
+
+    #[test]
+    fn names(rt: HostRuntime) {
+        for (place, (builtin, name)) in NAMES.iter().enumerate() {
+            assert!(rt; builtin.name() == *name, "row {place}");
+            assert_eq!(rt; Builtin::from_name(name), Some(*builtin), "row {place}");
+        }
+    }
+
+    #[test]
+    fn no_names(rt: HostRuntime) {
+        let unknown: [&[u8]; 4] = [b"int_gt", b"", b"INT_EQ", b"int_eq_rei"];
+        for name in unknown {
+            assert_eq!(rt; Builtin::from_name(name), None);
+        }
+    }
+}

@@ -7,6 +7,8 @@
 #![tactic(auto)]
 
 mod names;
+#[cfg(test)]
+mod tests;
 mod vars;
 
 pub use names::distinct_names;

@@ -9,6 +9,8 @@
 mod laws;
 mod lower;
 mod passes;
+#[cfg(test)]
+mod tests;
 mod write;
 
 pub use laws::low_extends;

@@ -1,9 +1,10 @@
 -- What the bounds and the value of each kind of expression are.
-use Rattle.std.proofs.Common.{◌≡◌, ℕ, ℤ, refl, ◌∙◌, ap, List, [], ◌∷◌, map, rules}
+use Rattle.std.proofs.Common.{◌≡◌, ℕ, ℤ, refl, ◌∙◌, ap, List, [], ◌∷◌, ◌++◌, append_assoc, map, codes, rules}
 use Rattle.xf_num.specs.Span.{Bounds}
 use Rattle.xs_model.specs.declared.expr.Op.{Op}
 use Rattle.xs_model.specs.declared.expr.Op.TheVariants.{Neg, Abs, Sqr, Add, Mul, Sub, Dist, Div, Mod, Pow, Min, Max, Lt, Le, Gt, Ge, Ne, Eq, Set, In, NotIn, Not, And, Or, Xor, Iff, Imp, If}
 use Rattle.xs_model.specs.declared.expr.Expr.{Expr, Int, Var, Node, the_lemmas}
+use Rattle.xs_expr.specs.Text.{joined_from, name_of, written}
 use Rattle.xs_model.specs.Value.{Worth, val, worth, at, number, apply, node_worth, values_of, second_members}
 use Rattle.xs_expr.specs.Bounds.{bounds, limited, exactly, operand, all_ok, and_then, node_bounds}
 
@@ -70,3 +71,10 @@ val-Node a op es =
 -- the members of a set
 pub members-Set : (a : List ℤ) (es : List Expr) → (worth a (Node Set es)).members ≡ map (val a) es
 members-Set a es = ap (λ (w : Worth). w.members) (worth-Node a Set es) ∙ values-are a es
+
+-- the text of a node
+pub written-Node : (words : List (List ℕ)) (op : Op) (es : List Expr) → written words (Node op es) ≡ name_of op ++ (codes "(" ++ (joined_from [] (map (written words) es) ++ codes ")"))
+written-Node words op es = search (rules, the_lemmas)
+
+pub regrouped : (o n p j q : List ℕ) → ((o ++ (n ++ p)) ++ j) ++ q ≡ o ++ (n ++ (p ++ (j ++ q)))
+regrouped o n p j q = simp append_assoc

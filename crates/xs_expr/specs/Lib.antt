@@ -5,3 +5,4 @@ pub mod Worths
 pub mod Laws
 pub mod Magnitude
 pub mod Weights
+pub mod Text

@@ -1,14 +1,20 @@
-//! Expressions of XCSP3-core: their bounds, their values, and how they are read and written.
+//! Expressions of XCSP3-core: their bounds, their values, their magnitudes, and how they are written.
 //!
-//! It stands on `xf_num`, `xf_text`, `xs_model` and `xf_problem`. `specs/Shape.antt` says which expressions are
-//! well formed, and `specs/Bounds.antt` what the bounds of one are and which node of it is at fault. `bounds`
-//! answers exactly these. `value` is the value of `xs_model`, without a sum or product that wraps.
+//! It stands on `xf_num`, `xf_text`, `xf_problem`, `xs_model` and `itoa`. Its definitions say which expressions
+//! are well formed (`specs/Shape.antt`), what the bounds of one are and which node of it is at fault
+//! (`specs/Bounds.antt`), what the magnitude of a constraint is (`specs/Magnitude.antt`), and how an expression is
+//! written (`specs/Text.antt`). The calls answer exactly these. `value` is the value that `xs_model` defines, for
+//! every expression of which no node is at fault at the given values, and `values_are_bounded` says that this is so
+//! at all values within bounds at which no node is at fault, and that the value then lies within the expression's
+//! bounds.
 #![tactic(auto)]
 
 mod limits;
 mod magnitude;
+mod text;
 mod worth;
 
 pub use limits::bounds;
 pub use magnitude::{judge, judge_expr, mag, mag_expr};
+pub use text::write_expr;
 pub use worth::{value, values_are_bounded};

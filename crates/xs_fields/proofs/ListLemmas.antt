@@ -5,6 +5,7 @@ use Rattle.xs_fields.specs.declared.condition.Condition.TheVariants.{Spelling}
 use Rattle.xs_fields.specs.Conditions.{first_missed}
 use Rattle.xs_fields.specs.Sizes.{front_meets}
 use Rattle.xs_fields.specs.Lists.{piece_in, run_in}
+use Rattle.xs_fields.specs.Variables.{bracket_in}
 use Rattle.xs_fields.specs.Words.{is_byte, parts}
 use Rattle.xs_fields.proofs.PartLemmas.{parts_front}
 
@@ -16,6 +17,11 @@ not_run v k bytes = ap (λ ps. run_in (v ∷ k ∷ ps)) (parts_front (is_byte 12
 pub not_piece : (a m b bytes : List ℕ) → piece_in (a ∷ m ∷ b ∷ parts (is_byte 46) bytes) ≡ None
 not_piece a [] b bytes = ap (λ ps. piece_in (a ∷ [] ∷ b ∷ ps)) (parts_front (is_byte 46) bytes)
 not_piece a (x ∷ xs) b bytes = ap (λ ps. piece_in (a ∷ (x ∷ xs) ∷ b ∷ ps)) (parts_front (is_byte 46) bytes)
+
+-- nor are they a bracket
+pub not_bracket : (a m b bytes : List ℕ) → bracket_in (a ∷ m ∷ b ∷ parts (is_byte 46) bytes) ≡ None
+not_bracket a [] b bytes = ap (λ ps. bracket_in (a ∷ [] ∷ b ∷ ps)) (parts_front (is_byte 46) bytes)
+not_bracket a (x ∷ xs) b bytes = ap (λ ps. bracket_in (a ∷ (x ∷ xs) ∷ b ∷ ps)) (parts_front (is_byte 46) bytes)
 
 -- brackets with nothing before them are spelt right
 pub front_right : (front bytes : List ℕ) → length front ≡ 0 → None ≡ first_missed (front_meets (front ∷ parts (is_byte 91) bytes))

@@ -1,9 +1,11 @@
 -- How the first missed conditions of two parts join to that of the whole.
-use Rattle.std.proofs.Common.{◌≡◌, ℕ, ◌<◌, Bool, true, false, not, ◌&&◌, nat_le, nat_lt, cond, if◌then◌else◌, List, [], ◌∷◌, Option, None, Some, IfSome, refl, ap, sym, ◌∙◌, arith}
+use Rattle.std.proofs.Common.{◌≡◌, ℕ, ◌<◌, Bool, true, false, not, ◌&&◌, nat_le, nat_lt, cond, if◌then◌else◌, List, [], ◌∷◌, Option, None, Some, IfSome, Ok, Err, refl, ap, sym, ◌∙◌, arith}
+use Rattle.std.specs.Result.{result_err}
+use Rattle.xs_fields.specs.declared.condition.Condition.TheVariants.{Magnitude}
 use Rattle.std.specs.List.{find, list_all}
 use borrow.Author.Tests.{leb-true, leb-false, ltb-true, le-leb, lt-leb}
 use Rattle.xs_fields.specs.declared.condition.Condition.{Condition}
-use Rattle.xs_fields.specs.Conditions.{rank, in_order, first_missed, earlier_of, all_meet}
+use Rattle.xs_fields.specs.Conditions.{rank, in_order, first_missed, earlier_of, all_meet, judged, meets}
 use Rattle.xs_fields.proofs.IntegerLemmas.{and_left, and_right}
 
 -- each is asked before those behind it
@@ -85,3 +87,12 @@ missed_all missed all test words none so_far = sym (no_more missed) ∙ ap (λ w
     no_more : (r : Option Condition) → earlier_of r None ≡ r
     no_more None = refl
     no_more (Some k) = refl
+
+-- what a judged word misses
+pub judged_missed : {A : Type 0} (small : A → Bool) (o : Option A) → result_err (judged small o) ≡ first_missed (meets small o)
+judged_missed small None = refl
+judged_missed small (Some x) = by (small x) refl
+  where
+    by : (v : Bool) → small x ≡ v → result_err (if v then Ok x else Err Magnitude) ≡ cond (not v) (Some Magnitude) None
+    by true e = refl
+    by false e = refl

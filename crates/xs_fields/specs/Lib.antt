@@ -4,3 +4,5 @@ pub mod Identifiers
 pub mod Integers
 pub mod Lists
 pub mod Sizes
+pub mod Variables
+pub mod Cells

@@ -50,7 +50,8 @@ pub fn judge_identifier(text: &[u8]) -> Option<Condition>
     }
 }
 
-fn copied(alloc: Global, bytes: &[u8]) -> Result<Text, NoMemory>
+/// A text of these bytes.
+pub fn copied(alloc: Global, bytes: &[u8]) -> Result<Text, NoMemory>
     ensures { IfOk result (λ text. text ≡ bytes.now) }
 {
     let mut text = Row::new(alloc);

@@ -9,6 +9,7 @@
 //! of one unit miss. Counts are decided before anything is expanded.
 #![tactic(auto)]
 
+mod cells;
 mod compare;
 mod condition;
 mod identifier;
@@ -16,6 +17,8 @@ mod integer;
 mod pieces;
 mod runs;
 mod sizes;
+mod variable;
+mod variables;
 mod words;
 
 pub use condition::{Condition, earlier};
@@ -24,4 +27,9 @@ pub use integer::{judge_integer, read_integer};
 pub use pieces::{judge_pieces, read_pieces};
 pub use runs::{count_ints, judge_ints, read_ints};
 pub use sizes::{judge_sizes, read_sizes};
+pub use variable::{Bracket, Brackets, Word, judge_word, read_word};
+pub use variables::{count_vars, judge_vars, reach, read_vars};
 pub use words::{is_blank, next_word};
+
+#[cfg(test)]
+mod tests;

@@ -9,7 +9,8 @@ use Rattle.std.proofs.lemmas.Slice.Eq.{starts_is}
 use Rattle.std.proofs.Math.Seq.{drop-append_seam}
 use Rattle.xf_num.specs.Span.{Bounds}
 use Rattle.xs_model.specs.declared.decl.Decl.{Decl}
-use Rattle.xs_first.specs.FirstForm.{magnitudes, Items, IsNumber, IsDecl}
+use Rattle.xs_model.specs.Sound.{magnitudes}
+use Rattle.xs_first.specs.FirstForm.{Items, IsNumber, IsDecl}
 use Rattle.xs_first.specs.Reading.{◌>>=◌, after_at, named_at, integer_at, ordered_at, range_at, variable_at, decl_of, IsStuck}
 use Rattle.xs_first.proofs.ItemLemmas.{items_push, IsOne}
 use Rattle.xs_first.proofs.TokenLemmas.{read, some_is, pair_is, bound, after_is, named_is, named_reads, integer_is, integer_reads}

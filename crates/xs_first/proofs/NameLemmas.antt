@@ -54,7 +54,7 @@ unfolding IsDistinct
 distinct_names [] h = tt
 distinct_names (k ∷ ks) h = (all_names (λ y. pointwise nat_eq k.now y ≡ false) ks h.0, distinct_names ks h.1)
 
-names_differ : (keys : List (Bor (List ℕ))) → IsDistinct (λ a b. pointwise nat_eq a.now b.now) keys → AllPairs (λ a b. a ≢ b) (keys_of keys)
+pub names_differ : (keys : List (Bor (List ℕ))) → IsDistinct (λ a b. pointwise nat_eq a.now b.now) keys → AllPairs (λ a b. a ≢ b) (keys_of keys)
 names_differ keys h = AllPairs-from_IsDistinct bytes_decides (keys_of keys) (distinct_names keys h)
 
 -- one name more
@@ -74,5 +74,5 @@ names_more keys more k names i added same within is new is_true grown =
 pub name_at : (ds : List Decl) (i : ℕ) (d : Decl) (n : List ℕ) → i < length ds → d ≡ get_or ds i d → n ≡ name_of d → (i < length (names_of ds)) × (n ≡ get_or (names_of ds) i [])
 name_at ds i d n within at is = (omega (arith, length-map ds name_of), is ∙ ap name_of at ∙ sym (get_or-map name_of ds i d [] within))
 
-pub all_differ : (keys : List (Bor (List ℕ))) (names : List (List ℕ)) (i : ℕ) → keys_of keys ≡ take i names → length names ≤ i → IsDistinct (λ a b. pointwise nat_eq a.now b.now) keys → AllPairs (λ a b. a ≢ b) names
-all_differ keys names i same end h = subst (λ (l : List (List ℕ)). AllPairs (λ a b. a ≢ b) l) (same ∙ take_all i names end) (names_differ keys h)
+pub all_differ : (keys : List (Bor (List ℕ))) (names : List (List ℕ)) (i : ℕ) → keys_of keys ≡ take i names → length names ≤ i → AllPairs (λ a b. a ≢ b) (keys_of keys) → AllPairs (λ a b. a ≢ b) names
+all_differ keys names i same end h = subst (λ (l : List (List ℕ)). AllPairs (λ a b. a ≢ b) l) (same ∙ take_all i names end) h

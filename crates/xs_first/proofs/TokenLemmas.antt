@@ -11,7 +11,8 @@ use Rattle.std.proofs.lemmas.Slice.Eq.{starts_is}
 use Rattle.std.proofs.Math.Seq.{take-append_seam, drop-append_seam}
 use Rattle.xf_text.specs.Number.{digits_at, is_minus, signed}
 use Rattle.xs_model.specs.Identifier.{is_digit, is_letter, is_word, IsIdentifier}
-use Rattle.xs_first.specs.FirstForm.{magnitudes, IsNumber, signed_text, signed_value}
+use Rattle.xs_model.specs.Sound.{magnitudes}
+use Rattle.xs_first.specs.FirstForm.{IsNumber, signed_text, signed_value}
 use Rattle.xs_first.specs.Reading.{◌>>=◌, after_at, named_at, integer_at}
 
 pub some_is : {A : Type 0} (x y : A) → Some x ≡ Some y → x ≡ y

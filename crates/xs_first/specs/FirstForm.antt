@@ -1,5 +1,5 @@
 -- The first form of an instance: variables of one range each, and lists whose values differ pairwise.
-use Rattle.std.specs.Prelude.{◌≡◌, ◌≢◌, ℕ, ℤ, pos, neg_ℤ, nat_abs, ◌<◌, ◌≤◌, ◌≤ℤ◌, ◌-◌, ◌^◌, Bool, true, false, List, [], ◌∷◌, ◌++◌, length, slice_get, Some, map, sum, AllPairs, codes}
+use Rattle.std.specs.Prelude.{◌≡◌, ◌≢◌, ℕ, ℤ, pos, neg_ℤ, ◌<◌, ◌≤◌, ◌≤ℤ◌, Bool, true, false, List, [], ◌∷◌, ◌++◌, length, slice_get, Some, map, sum, AllPairs, codes}
 use Rattle.std.specs.List.{list_all}
 use Rattle.std.specs.Str.Parse.{digits_value}
 use Rattle.xf_text.specs.declared.fault.Kind.TheVariants.{Unknown}
@@ -11,7 +11,7 @@ use Rattle.xs_model.specs.declared.instance.Constraint.{Constraint}
 use Rattle.xs_model.specs.declared.instance.Constraint.TheVariants.{AllDifferent}
 use Rattle.xs_model.specs.declared.instance.Instance.{Instance}
 use Rattle.xs_model.specs.Identifier.{is_digit, IsIdentifier}
-use Rattle.xs_model.specs.Sound.{names_of}
+use Rattle.xs_model.specs.Sound.{IsSmall, names_of}
 
 -- text is the spellings of the items xs, one behind the other, and then rest
 abbrev pub Items : {A : Type 0} → (List ℕ → A → List ℕ → Type 0) → List ℕ → List A → List ℕ → Type 0
@@ -27,7 +27,7 @@ abbrev pub signed_value : Bool → ℕ → ℤ
 signed_value true n = neg_ℤ (pos n)
 signed_value false n = pos n
 
--- text is an optional `-` and at least one digit, and denotes z
+-- text is an optional `-` and at least one digit, and denotes z (XCSP3-core, integers)
 pub record IsNumber (text : List ℕ) (z : ℤ) : Type 0 where
   pub minus : Bool
   pub digits : List ℕ
@@ -36,13 +36,11 @@ pub record IsNumber (text : List ℕ) (z : ℤ) : Type 0 where
   pub spelled : text ≡ signed_text minus digits
   pub denotes : z ≡ signed_value minus (digits_value 10 digits)
 
--- the greatest magnitude of an integer
-abbrev pub magnitudes : ℕ
-magnitudes = 2 ^ 126 - 1
-
+-- the most variables of an instance
 abbrev pub most_variables : ℕ
 most_variables = 1048576
 
+-- the most names that all its constraints use together
 abbrev pub most_used : ℕ
 most_used = 4194304
 
@@ -56,8 +54,8 @@ pub record IsDecl (text : List ℕ) (d : Decl) (rest : List ℕ) : Type 0 where
   pub named : IsIdentifier name
   pub low_denotes : IsNumber low lo
   pub high_denotes : IsNumber high hi
-  pub low_within : nat_abs lo ≤ magnitudes
-  pub high_within : nat_abs hi ≤ magnitudes
+  pub low_within : IsSmall lo
+  pub high_within : IsSmall hi
   pub ordered : lo ≤ℤ hi
   pub declares : d ≡ One name (record { lo = lo; hi = hi } ∷ [])
   pub spelled : text ≡ codes "<var id=\"" ++ (name ++ (codes "\"> " ++ (low ++ (codes ".." ++ (high ++ (codes " </var>" ++ rest))))))
@@ -81,7 +79,7 @@ uses_of (AllDifferent list) = length list
 abbrev pub used : List Constraint → ℕ
 used cs = sum (map uses_of cs)
 
--- text has the first form, and spells the instance i
+-- text has the first form, and spells the instance i (XCSP3-core, the skeleton of an instance)
 pub record IsFirstForm (text : List ℕ) (i : Instance) : Type 0 where
   pub variables : List ℕ
   pub constraints : List ℕ

@@ -10,8 +10,8 @@ use Rattle.xs_model.specs.declared.decl.Decl.TheVariants.{One}
 use Rattle.xs_model.specs.Identifier.{is_letter, is_word}
 use Rattle.xs_model.specs.declared.instance.Constraint.{Constraint}
 use Rattle.xs_model.specs.declared.instance.Instance.{Instance}
-use Rattle.xs_model.specs.Sound.{names_of}
-use Rattle.xs_first.specs.FirstForm.{magnitudes, Items, IsDecl, IsPosted, used, most_used, most_variables}
+use Rattle.xs_model.specs.Sound.{magnitudes, names_of}
+use Rattle.xs_first.specs.FirstForm.{Items, IsDecl, IsPosted, used, most_used, most_variables}
 
 infixl 10 ◌>>=◌
 abbrev pub ◌>>=◌ : {A B : Type 0} → Option A → (A → Option B) → Option B

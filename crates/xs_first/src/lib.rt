@@ -15,6 +15,8 @@ ghost use Rattle.xs_first.specs.Reading.{Declares, NoneDeclares, Continues, None
 
 mod lists;
 mod names;
+#[cfg(test)]
+mod tests;
 mod tokens;
 mod variables;
 

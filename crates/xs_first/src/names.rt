@@ -36,7 +36,6 @@ pub fn collect<'a>(decls: &'a [Decl], names: &mut Names<'a>) -> Result<bool, NoM
             return Ok(false);
         }
     }
-    let _count = names.len();
     Ok(true)
 }
 

@@ -3,3 +3,4 @@ pub mod TableLemmas
 pub mod BracketLemmas
 pub mod NamesLemmas
 pub mod FindLemmas
+pub mod WordLemmas

@@ -3,7 +3,7 @@ use Rattle.std.specs.Prelude.{◌≡◌, ℕ, pos, List, [], ◌∷◌, ◌++◌
 use Rattle.std.specs.List.{flat_map}
 use Rattle.std.specs.Str.Parse.{IsNumeral, without_leading_sign, signed_digits_value}
 use Rattle.xs_model.specs.Names.{row_major}
-use Rattle.xs_model.specs.Outline.{Outline, cell_numbers}
+use Rattle.xs_model.specs.Outline.{Outline, cell_numbers, number_cells}
 
 abbrev pub bracketed : List ℕ → List ℕ
 bracketed t = codes "[" ++ (t ++ codes "]")
@@ -30,3 +30,11 @@ pub record Denotes (os : List Outline) (word : List ℕ) (k : ℕ) : Type 0 wher
   pub numbered : slice_index_or (cell_numbers os at) place None ≡ Some k
   pub spelt : word ≡ outline.name ++ flat_map bracketed texts
   pub reads : SpellIndices texts (slice_index_or (row_major outline.sizes) place [])
+
+-- a word denotes the nth variable of one declaration
+pub record DenotesIn (o : Outline) (word : List ℕ) (nth : ℕ) : Type 0 where
+  pub place : ℕ
+  pub texts : List (List ℕ)
+  pub numbered : slice_index_or (number_cells 0 o.cells) place None ≡ Some nth
+  pub spelt : word ≡ o.name ++ flat_map bracketed texts
+  pub reads : SpellIndices texts (slice_index_or (row_major o.sizes) place [])

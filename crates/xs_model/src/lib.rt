@@ -19,3 +19,6 @@ pub use expr::{Expr, Exprs, Op};
 pub use instance::{Constraint, Constraints, Instance};
 pub use names::{NameStop, Names};
 pub use words::word;
+
+#[cfg(test)]
+mod tests;

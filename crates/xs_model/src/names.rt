@@ -127,8 +127,8 @@ impl Names {
         self.table.entry(at).number(place)
     }
 
-    // The number of the declaration with this name.
-    fn position(&self, name: &[u8]) -> Option<usize>
+    /// The number of the declaration with this name, of a variable or an array. None exactly where there is none.
+    pub fn position(&self, name: &[u8]) -> Option<usize>
         ensures found { IfSome result (λ at. IsNamed self.now at name.now) }
         ensures only { (at : ℕ) → IsNamed self.now at name.now → result ≡ Some at }
         ensures sound { AllByRecursion IsSoundOutline self.now }

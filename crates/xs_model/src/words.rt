@@ -5,6 +5,8 @@ ghost use Rattle.std.specs.List.{AllByRecursion};
 ghost use Rattle.xs_model.specs.Names.{words, words_of, bracket, cell_word, row_major, defined};
 ghost use Rattle.xs_model.specs.Sound.{IsSoundDecl, IsSize, cell_count};
 ghost use Rattle.xs_model.specs.Cells.{IsDefinedPlace};
+ghost use Rattle.xs_model.specs.Denotes.{Denotes, DenotesIn};
+ghost use Rattle.xs_model.specs.Outline.{outline_of, outlines_of};
 
 use crate::decl::{Decl, Decls};
 use itoa::Buffer;
@@ -18,7 +20,8 @@ use xf_num::{Domain, NoMemory};
 pub fn word(alloc: Global, decls: &Decls, variable: u32) -> Result<Vec<u8>, NoMemory>
     requires sound { AllByRecursion IsSoundDecl decls.now }
     requires declared { variable < length (words decls.now) }
-    ensures { IfOk result (λ word. word.items ≡ slice_index_or (words decls.now) variable []) }
+    ensures word { IfOk result (λ word. word.items ≡ slice_index_or (words decls.now) variable []) }
+    ensures denotes { IfOk result (λ word. Denotes (outlines_of decls.now) word.items variable) }
 {
     let mut left = variable as usize;
     for decl in decls.as_slice() {
@@ -59,7 +62,8 @@ fn defined_in(cells: &[Option<Domain>]) -> usize
 fn word_in(alloc: Global, decl: &Decl, nth: usize) -> Result<Vec<u8>, NoMemory>
     requires sound { IsSoundDecl decl.now }
     requires declared { nth < length (words_of decl.now) }
-    ensures { IfOk result (λ word. word.items ≡ slice_index_or (words_of decl.now) nth []) }
+    ensures word { IfOk result (λ word. word.items ≡ slice_index_or (words_of decl.now) nth []) }
+    ensures denotes { IfOk result (λ word. DenotesIn (outline_of decl.now) word.items nth) }
 {
     match decl {
         Decl::One { name, .. } => Ok(Vec::from_slice(alloc, name.as_slice())?),
