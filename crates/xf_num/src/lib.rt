@@ -10,6 +10,8 @@ mod memory;
 mod row;
 mod span;
 mod stack;
+#[cfg(test)]
+mod tests;
 
 pub use domain::{Domain, DomainFault};
 pub use memory::NoMemory;

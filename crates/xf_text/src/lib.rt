@@ -7,6 +7,8 @@ mod fault;
 mod memory;
 mod number;
 mod outside;
+#[cfg(test)]
+mod tests;
 mod whole;
 
 pub use fault::{Fault, FieldStop, Kind, Stop};

@@ -238,7 +238,10 @@ fn a_file_of_more_than_64_mib_is_too_long(rt: HostRuntime) -> Result<(), Fail> {
     let ended = run_on_spaces(rt.alloc(), 67_108_865)?;
     assert_eq!(rt; ended.status, 2);
     assert_eq!(rt; ended.out.bytes(), b"".as_slice());
-    assert_eq!(rt; ended.err.bytes(), b"refused F1 at 67108864 in i.xml\n".as_slice());
+    assert_eq!(rt;
+        ended.err.bytes(),
+        b"refused F1 at 67108864 in i.xml\n".as_slice()
+    );
     Ok(())
 }
 

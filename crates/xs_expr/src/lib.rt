@@ -11,6 +11,8 @@
 
 mod limits;
 mod magnitude;
+#[cfg(test)]
+mod tests;
 mod text;
 mod worth;
 
