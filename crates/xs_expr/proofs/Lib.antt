@@ -10,3 +10,5 @@ pub mod Sound
 pub mod Narrow
 pub mod Bounded
 pub mod Weighed
+pub mod Depths
+pub mod Named

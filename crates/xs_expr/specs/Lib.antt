@@ -6,3 +6,5 @@ pub mod Laws
 pub mod Magnitude
 pub mod Weights
 pub mod Text
+pub mod Depth
+pub mod Operators

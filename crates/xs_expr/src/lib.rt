@@ -9,14 +9,18 @@
 //! bounds.
 #![tactic(auto)]
 
+mod depth;
 mod limits;
 mod magnitude;
+mod operators;
 #[cfg(test)]
 mod tests;
 mod text;
 mod worth;
 
+pub use depth::is_too_deep;
 pub use limits::bounds;
 pub use magnitude::{judge, judge_expr, mag, mag_expr};
+pub use operators::operator;
 pub use text::write_expr;
 pub use worth::{value, values_are_bounded};
