@@ -12,3 +12,4 @@ pub mod Bounded
 pub mod Weighed
 pub mod Depths
 pub mod Named
+pub mod Shapes

@@ -8,3 +8,4 @@ pub mod Weights
 pub mod Text
 pub mod Depth
 pub mod Operators
+pub mod Shaped

@@ -13,6 +13,7 @@ mod depth;
 mod limits;
 mod magnitude;
 mod operators;
+mod shape;
 #[cfg(test)]
 mod tests;
 mod text;
@@ -22,5 +23,6 @@ pub use depth::is_too_deep;
 pub use limits::bounds;
 pub use magnitude::{judge, judge_expr, mag, mag_expr};
 pub use operators::operator;
+pub use shape::is_shaped;
 pub use text::write_expr;
 pub use worth::{value, values_are_bounded};
