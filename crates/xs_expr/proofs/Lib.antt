@@ -13,3 +13,4 @@ pub mod Weighed
 pub mod Depths
 pub mod Named
 pub mod Shapes
+pub mod TokenLemmas

@@ -9,3 +9,4 @@ pub mod Text
 pub mod Depth
 pub mod Operators
 pub mod Shaped
+pub mod Tokens

@@ -17,6 +17,7 @@ mod shape;
 #[cfg(test)]
 mod tests;
 mod text;
+mod tokens;
 mod worth;
 
 pub use depth::is_too_deep;
@@ -25,4 +26,5 @@ pub use magnitude::{judge, judge_expr, mag, mag_expr};
 pub use operators::operator;
 pub use shape::is_shaped;
 pub use text::write_expr;
+pub use tokens::next_token;
 pub use worth::{value, values_are_bounded};
