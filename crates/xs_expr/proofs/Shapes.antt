@@ -1,13 +1,12 @@
 -- The tests of a node's operands are what is asked of them.
-use Rattle.std.proofs.Common.{◌≡◌, ℕ, suc, ◌+◌, ◌<◌, ℤ, pos, int_le, refl, sym, ◌∙◌, ap, subst, List, [], ◌∷◌, map, length, drop, get_or, drop-cons, Bool, true, false, ◌&&◌, not, rules, arith, All}
-use Rattle.std.proofs.lemmas.Int.{ints}
-use Rattle.std.proofs.lemmas.List.Elements.{All-cons, All-nil, All-head, All-tail}
+use Rattle.std.proofs.Common.{◌≡◌, ℕ, suc, ◌+◌, ◌<◌, ℤ, refl, sym, ◌∙◌, ap, subst, List, [], ◌∷◌, map, length, drop, get_or, drop-cons, Bool, true, false, ◌&&◌, not, rules, arith, All}
+use Rattle.std.proofs.lemmas.List.Elements.{All-cons, All-head, All-tail}
 use Rattle.xs_model.specs.declared.expr.Op.{Op}
 use Rattle.xs_model.specs.declared.expr.Op.TheVariants.{Neg, Abs, Sqr, Add, Mul, Sub, Dist, Div, Mod, Pow, Min, Max, Lt, Le, Gt, Ge, Ne, Eq, Set, In, NotIn, Not, And, Or, Xor, Iff, Imp, If}
-use Rattle.xs_model.specs.declared.expr.Expr.{Expr, Int, Var, Node, out-Expr, roll-Expr, map-Expr, every-Expr, every_made-Expr, the_lemmas}
-use Rattle.xs_model.specs.declared.expr.Expr.TheVariants.{rolls-Int, rolls-Var, rolls-Node}
+use Rattle.xs_model.specs.declared.expr.Expr.{Expr, Node, out-Expr, roll-Expr, every_made-Expr}
+use Rattle.xs_model.specs.declared.expr.Expr.TheVariants.{rolls-Node}
 use Rattle.xs_model.specs.declared.expr.Expr.TheOpen.{Expr-F}
-use Rattle.xs_expr.specs.Shape.{IsCount, IsExponent, IsExponentLayer, AreNoSets, IsMembership, IsPower, ArePlaced, HasShape, IsShaped, is_set}
+use Rattle.xs_expr.specs.Shape.{IsCount, IsExponentLayer, AreNoSets, IsMembership, IsPower, ArePlaced, HasShape, IsShaped, is_set}
 use Rattle.xs_expr.specs.Shaped.{is_count, is_exponent_layer, is_exponent, is_membership, is_power, are_no_sets, are_placed}
 
 both-left : (a b : Bool) → (a && b) ≡ true → a ≡ true

@@ -1,4 +1,4 @@
-use Rattle.std.proofs.Common.{drop, ◌+◌, arith}
+use Rattle.std.proofs.Common.{drop, ◌+◌}
 use Rattle.xs_expr.proofs.Depths.{deeper-here, deeper-before, deeper-behind}
 use Rattle.xs_expr.proofs.depth.is_too_deep.Goals as goal
 

@@ -1,4 +1,4 @@
-use Rattle.std.proofs.Common.{◌≡◌, ℕ, List, All, subst, sym, ◌∙◌}
+use Rattle.std.proofs.Common.{List, All, subst, sym, ◌∙◌}
 use Rattle.xs_model.specs.declared.expr.Expr.{Expr}
 use Rattle.xs_model.specs.declared.expr.Expr.TheOpen.{Expr-F}
 use Rattle.xs_model.specs.declared.expr.Expr.TheVariants.{rolls-Int, rolls-Var}
