@@ -14,3 +14,4 @@ pub mod Depths
 pub mod Named
 pub mod Shapes
 pub mod TokenLemmas
+pub mod WordLemmas

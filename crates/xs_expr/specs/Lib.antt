@@ -10,3 +10,4 @@ pub mod Depth
 pub mod Operators
 pub mod Shaped
 pub mod Tokens
+pub mod Words

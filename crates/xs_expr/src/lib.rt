@@ -22,6 +22,7 @@ mod shape;
 mod tests;
 mod text;
 mod tokens;
+mod words;
 mod worth;
 
 pub use depth::is_too_deep;
@@ -31,4 +32,5 @@ pub use operators::operator;
 pub use shape::is_shaped;
 pub use text::write_expr;
 pub use tokens::next_token;
+pub use words::is_exponent_word;
 pub use worth::{value, values_are_bounded};
