@@ -10,7 +10,8 @@
 //! bounds.
 //!
 //! Of a text it says whether its parentheses are too deep (`specs/Depth.antt`), which operator a name is
-//! (`specs/Text.antt`), and what its tokens are (`specs/Tokens.antt`). It does not read an expression from them yet.
+//! (`specs/Text.antt`), what its tokens are (`specs/Tokens.antt`), and which words are exponents (`specs/Words.antt`).
+//! It does not read an expression from them yet.
 #![tactic(auto)]
 
 mod depth;

@@ -1,6 +1,6 @@
 ghost use Rattle.std.specs.Prelude.{◌≡◌, IfOk};
 
-use crate::{is_shaped, is_too_deep, judge, mag, next_token, operator};
+use crate::{is_exponent_word, is_shaped, is_too_deep, judge, mag, next_token, operator};
 use std::alloc::Global;
 use std::test::Fail;
 use xf_num::{Row, Span, Vars};
@@ -94,6 +94,23 @@ fn tokens(rt: HostRuntime) {
         }
     }
     assert!(rt; next_token(rest).is_none());
+}
+
+#[test]
+fn exponents(rt: HostRuntime) {
+    let rows: [(&[u8], bool); 8] = [
+        (b"1", true),
+        (b"64", true),
+        (b"+2", true),
+        (b"02", true),
+        (b"0", false),
+        (b"65", false),
+        (b"x", false),
+        (b"9999999999999999999999999999999999999999", false),
+    ];
+    for (word, expected) in rows {
+        assert_eq!(rt; is_exponent_word(word), expected);
+    }
 }
 
 fn pair(alloc: Global, op: Op, first: Expr, second: Expr) -> Result<Expr, Fail> {
