@@ -10,3 +10,8 @@ pub mod Sound
 pub mod Narrow
 pub mod Bounded
 pub mod Weighed
+pub mod Depths
+pub mod Named
+pub mod Shapes
+pub mod TokenLemmas
+pub mod WordLemmas

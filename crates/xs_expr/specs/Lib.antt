@@ -6,3 +6,8 @@ pub mod Laws
 pub mod Magnitude
 pub mod Weights
 pub mod Text
+pub mod Depth
+pub mod Operators
+pub mod Shaped
+pub mod Tokens
+pub mod Words

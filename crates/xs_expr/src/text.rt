@@ -85,7 +85,7 @@ fn write_int(value: i128, out: &mut Vec<u8>) -> Result<(), NoMemory>
 
 /// The name of an operator.
 #[tactic(auto, unfolding(crate::specs::Text::name_of))]
-fn name_of(op: Op) -> &'static [u8]
+pub(crate) fn name_of(op: Op) -> &'static [u8]
     ensures { result.now ≡ name_of op }
 {
     match op {
