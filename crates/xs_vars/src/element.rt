@@ -1,6 +1,7 @@
 //! The attributes and the text of an element.
 
-ghost use Rattle.std.specs.Prelude.{◌≡◌, IfOk, None, Some, MatchOption, map};
+ghost use Rattle.std.specs.Prelude.{◌≡◌, IfOk, map};
+ghost use Rattle.std.specs.Option.{option_map};
 ghost use Rattle.xs_vars.specs.Elements.{has_only, is_one_of, text_in, value_in};
 
 use std::alloc::Global;
@@ -9,7 +10,7 @@ use xf_num::{NoMemory, Row, Text};
 
 /// The value of the attribute with this name; of two, the first.
 pub fn attribute<'a>(attrs: &'a [Attr], name: &[u8]) -> Option<&'a [u8]>
-    ensures { MatchOption result (value_in name.now attrs.now ≡ None) (λ value. value_in name.now attrs.now ≡ Some value.now) }
+    ensures { option_map (λ value. value.now) result ≡ value_in name.now attrs.now }
 {
     for attr in attrs {
         if attr.name.as_slice() == name {

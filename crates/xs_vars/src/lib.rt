@@ -1,9 +1,11 @@
 //! The variables of an instance.
 //!
 //! It stands on `xf_markup`, `xs_model` and `xs_fields`. `specs/Elements.antt` says what an element's attributes and
-//! text are.
+//! text are, `specs/Units.antt` which fault units have, and `specs/Variable.antt` what a `var` has to meet.
 #![tactic(auto)]
 
 mod element;
+mod var;
 
 pub use element::{attribute, has_only, text_of};
+pub use var::{judge_names, judge_var_fields};
