@@ -1,3 +1,4 @@
 pub mod Elements
+pub mod Merged
 pub mod Units
 pub mod Variable

@@ -4,8 +4,10 @@
 //! text are, `specs/Units.antt` which fault units have, and `specs/Variable.antt` what a `var` has to meet.
 #![tactic(auto)]
 
+mod domain;
 mod element;
 mod var;
 
+pub use domain::domain_of;
 pub use element::{attribute, has_only, text_of};
 pub use var::{judge_names, judge_var_fields};
