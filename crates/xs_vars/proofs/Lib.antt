@@ -1,2 +1,3 @@
+pub mod LikeLemmas
 pub mod MergedLemmas
 pub mod NameLemmas

@@ -1,4 +1,5 @@
 pub mod Elements
+pub mod Like
 pub mod Merged
 pub mod Units
 pub mod Variable

@@ -6,8 +6,10 @@
 
 mod domain;
 mod element;
+mod like;
 mod var;
 
 pub use domain::domain_of;
 pub use element::{attribute, has_only, text_of};
+pub use like::{like_domain, single_domain};
 pub use var::{judge_names, judge_var_fields};
