@@ -2,4 +2,5 @@ pub mod Elements
 pub mod Like
 pub mod Merged
 pub mod Units
+pub mod VarDomain
 pub mod Variable

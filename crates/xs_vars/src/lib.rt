@@ -8,8 +8,10 @@ mod domain;
 mod element;
 mod like;
 mod var;
+mod values;
 
 pub use domain::domain_of;
 pub use element::{attribute, has_only, text_of};
 pub use like::{like_domain, single_domain};
 pub use var::{judge_names, judge_var_fields};
+pub use values::{text_domain, values_of, var_domain};
