@@ -1,5 +1,5 @@
 -- The domain of a `var`, and its counts (XCSP3-core, "Variables").
-use Rattle.std.specs.Prelude.{ℕ, ◌+◌, Bool, true, ◌&&◌, nat_le, List, Option, None, Some}
+use Rattle.std.specs.Prelude.{ℕ, ◌+◌, Bool, true, ◌&&◌, nat_le, List, Option, None, Some, is_some}
 use Rattle.xf_num.specs.Span.{Bounds}
 use Rattle.xs_fields.specs.Conditions.{first_missed}
 use Rattle.xs_fields.specs.Lists.{pieces_meet, pieces_of}
@@ -40,3 +40,7 @@ counting_meets test k = true
 abbrev pub fitting_meets : Bool → Condition → Bool
 fitting_meets test Fitting = test
 fitting_meets test k = true
+
+-- what a `var` meets of its counts and its domain
+abbrev pub counts_meet : ℕ → ℕ → Option (List Bounds) → Condition → Bool
+counts_meet cells values d k = counting_meets (is_counted cells values d) k && fitting_meets (is_some d) k

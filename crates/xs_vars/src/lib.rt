@@ -14,4 +14,4 @@ pub use domain::domain_of;
 pub use element::{attribute, has_only, text_of};
 pub use like::{like_domain, single_domain};
 pub use var::{judge_names, judge_var_fields};
-pub use values::{text_domain, values_of, var_domain};
+pub use values::{judge_counts, text_domain, values_of, var_domain};

@@ -1,19 +1,19 @@
 //! The domain of a `var`, and its counts.
 
-ghost use Rattle.std.specs.Prelude.{◌≡◌, ◌≤◌, IfOk, SomeIff};
+ghost use Rattle.std.specs.Prelude.{◌≡◌, ◌≤◌, ◌+◌, nat_le, IfOk, SomeIff};
 ghost use Rattle.std.specs.Option.{option_map};
 ghost use Rattle.xs_fields.specs.Conditions.{first_missed};
 ghost use Rattle.xs_model.specs.Outline.{outlines_of};
 ghost use Rattle.xs_model.specs.Sound.{most_cells, most_items, values_of};
 ghost use Rattle.xs_vars.specs.Like.{like_domain};
-ghost use Rattle.xs_vars.specs.VarDomain.{counting_meets, fitting_meets, is_counted, text_domain, values_in, var_domain};
+ghost use Rattle.xs_vars.specs.VarDomain.{counting_meets, counts_meet, fitting_meets, is_counted, text_domain, values_in, var_domain};
 
 use crate::domain::domain_of;
 use crate::like::like_domain;
 use std::alloc::Global;
 use xf_num::{Domain, NoMemory};
 use xf_text::FieldStop;
-use xs_fields::{Condition, read_pieces};
+use xs_fields::{Condition, earlier, read_pieces};
 use xs_model::{Decl, Names};
 
 /// The greatest number of variables and array cells.
@@ -70,4 +70,48 @@ pub fn values_of(domain: &Domain, left: u64) -> Option<u64>
     } else {
         domain.values_at_most(left)
     }
+}
+
+// Whether the values of a domain, beside those counted before, are within the limit.
+fn have_room(values: u64, domain: Option<&Domain>) -> bool
+    requires { values ≤ most_items }
+    ensures { result ≡ nat_le (values + values_in (option_map (λ d. d.now) domain.entry)) most_items }
+{
+    match domain {
+        Some(domain) => values_of(domain, MOST_VALUES - values).is_some(),
+        None => true,
+    }
+}
+
+// Whether the counts are within the limits with one cell and the values of its domain more.
+fn is_counted(cells: u64, values: u64, domain: Option<&Domain>) -> bool
+    requires cells { cells ≤ most_cells }
+    requires values { values ≤ most_items }
+    ensures { result ≡ is_counted cells values (option_map (λ d. d.now) domain.entry) }
+{
+    cells < MOST_CELLS && have_room(values, domain)
+}
+
+// `Counting` exactly where the test fails.
+fn judge_counting(test: bool) -> Option<Condition>
+    ensures { result ≡ first_missed (counting_meets test) }
+{
+    if test { None } else { Some(Condition::Counting) }
+}
+
+// `Fitting` exactly where the test fails.
+fn judge_fitting(test: bool) -> Option<Condition>
+    ensures { result ≡ first_missed (fitting_meets test) }
+{
+    if test { None } else { Some(Condition::Fitting) }
+}
+
+/// What the domain of a `var` misses first, beside the cells and the values that are counted before it.
+pub fn judge_counts(cells: u64, values: u64, domain: Option<&Domain>) -> Option<Condition>
+    requires cells { cells ≤ most_cells }
+    requires values { values ≤ most_items }
+    ensures { result ≡ first_missed (counts_meet cells values (option_map (λ d. d.now) domain.entry)) }
+{
+    let counted = judge_counting(is_counted(cells, values, domain));
+    earlier(counted, judge_fitting(domain.is_some()))
 }
