@@ -3,8 +3,8 @@ use Rattle.std.proofs.Common.{◌≡◌, ℕ, zero, suc, Bool, true, false, cond
 use Rattle.std.proofs.lemmas.Slice.Eq.{bytes_eq-Decides}
 use Rattle.xs_model.specs.declared.decl.Decl.{Decl}
 use Rattle.xs_model.specs.declared.decl.Decl.TheVariants.{One, Array}
-use Rattle.xs_model.specs.Outline.{IsNamed, outline_of, outlines_of}
-use Rattle.xs_model.specs.Sound.{name_of}
+use Rattle.xs_model.specs.Outline.{IsNamed, names_in, outline_of, outlines_of}
+use Rattle.xs_model.specs.Sound.{name_of, names_of}
 use Rattle.xs_vars.specs.Like.{declaration}
 
 outline_name : (d : Decl) → (outline_of d).name ≡ name_of d
@@ -38,3 +38,7 @@ pub at_place : (ds : List Decl) (name : List ℕ) (at : ℕ) (d : Decl) → IsNa
 at_place [] name at d g e = cc
 at_place (x ∷ xs) name zero d g e = let same : (outline_of x).name ≡ name = cc in (ap (λ y. Some y) (sym e), ap name_of e ∙ sym (outline_name x) ∙ same)
 at_place (x ∷ xs) name (suc at) d g e = at_place xs name at d g e
+
+pub names_known : (ds : List Decl) → names_in (outlines_of ds) ≡ names_of ds
+names_known [] = refl
+names_known (d ∷ ds) = rw (outline_name d, names_known ds) refl

@@ -3,4 +3,5 @@ pub mod Like
 pub mod Merged
 pub mod Units
 pub mod VarDomain
+pub mod VarUnit
 pub mod Variable
