@@ -33,3 +33,8 @@ with_one s (Some name) (Some d) = record { decls = s.decls ++ One name d ∷ [];
 
 abbrev pub var_unit : Node → UnitOf Declared
 var_unit n = record { place = n.place; meets = λ s. var_meets s n; behind = λ s. with_one s (value_in (codes "id") n.attrs) (domain_for s.decls n) }
+
+-- the declaration of a variable of this name
+abbrev pub one_decl : Option (List ℕ) → List Bounds → Option Decl
+one_decl None d = None
+one_decl (Some name) d = Some (One name d)

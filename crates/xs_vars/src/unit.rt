@@ -1,18 +1,19 @@
 //! The unit of a `var`.
 
-ghost use Rattle.std.specs.Prelude.{◌≡◌, ◌≤◌, IfOk};
+ghost use Rattle.std.specs.Prelude.{◌≡◌, ◌≤◌, codes, IfOk};
 ghost use Rattle.std.specs.Option.{option_map};
 ghost use Rattle.xs_fields.specs.Conditions.{first_missed};
 ghost use Rattle.xs_model.specs.Outline.{outlines_of};
 ghost use Rattle.xs_model.specs.Sound.{most_cells, most_items};
-ghost use Rattle.xs_vars.specs.VarUnit.{domain_for, var_meets};
+ghost use Rattle.xs_vars.specs.Elements.{value_in};
+ghost use Rattle.xs_vars.specs.VarUnit.{domain_for, one_decl, var_meets};
 
 use crate::element::{attribute, text_of};
 use crate::values::{judge_counts, var_domain};
 use crate::var::{judge_names, judge_var_fields};
 use std::alloc::Global;
 use xf_markup::Node;
-use xf_num::{Domain, NoMemory};
+use xf_num::{Domain, NoMemory, Row};
 use xs_fields::{Condition, earlier};
 use xs_model::{Decl, Names};
 
@@ -48,4 +49,18 @@ pub fn judge_var(
     let counts = judge_counts(cells, values, domain);
     let others = earlier(judge_names(node, names), counts);
     Ok(earlier(fields, others))
+}
+
+/// The declaration of a `var` of this domain. None where it has no name.
+pub fn read_var(alloc: Global, node: &Node, domain: Domain) -> Result<Option<Decl>, NoMemory>
+    ensures { IfOk result (λ decl. decl ≡ one_decl (value_in (codes "id") node.now.attrs) domain) }
+{
+    match attribute(node.attrs.as_slice(), b"id") {
+        Some(id) => {
+            let mut name = Row::new(alloc);
+            name.extend(id)?;
+            Ok(Some(Decl::One { name, domain }))
+        }
+        None => Ok(None),
+    }
 }
