@@ -1,5 +1,5 @@
 -- Ascending ranges that do not touch are told by their members.
-use Rattle.std.proofs.Common.{◌≡◌, refl, sym, ap, subst, ◌∙◌, Bool, true, false, cond, if◌then◌else◌, List, [], ◌∷◌, ℤ, pos, ◌+ℤ◌, ◌≤ℤ◌, ◌<ℤ◌, ◌⊎◌, inl, inr, ◌↔◌, Some, arith}
+use Rattle.std.proofs.Common.{◌≡◌, refl, sym, ap, Bool, true, false, if◌then◌else◌, List, [], ◌∷◌, ℤ, pos, ◌+ℤ◌, ◌≤ℤ◌, ◌<ℤ◌, ◌⊎◌, inl, inr, ◌↔◌, Some, arith}
 use Rattle.std.specs.Prelude.{int_le, int_lt}
 use Rattle.std.proofs.lemmas.Int.{ints, clamps, by_lt_z}
 use Rattle.xf_num.specs.Span.{Bounds, IsWithin, join_ends}
@@ -95,8 +95,8 @@ split b c v e d w =
     by_lt_z b.hi v
     (λ up. inr (record { from = omega (arith, ints, e, up); to = omega (arith, ints, clamps, w.to, up) }))
     (λ to. by_lt_z v b.lo
-      (λ down. inr (record { from = omega (arith, ints, clamps, w.from, down); to = omega (arith, ints, d, down) }))
-      (λ from. inl (record { from = from; to = to })))
+    (λ down. inr (record { from = omega (arith, ints, clamps, w.from, down); to = omega (arith, ints, d, down) }))
+    (λ from. inl (record { from = from; to = to })))
 
 join_left : (b c : Bounds) (v : ℤ) → IsWithin b v → IsWithin (join_ends b c) v
 join_left b c v h = record { from = omega (arith, ints, clamps, h.from); to = omega (arith, ints, clamps, h.to) }

@@ -1,11 +1,10 @@
 -- Attributes, texts and children of an element (XML 1.0, elements and attributes; XCSP3-core uses no other markup).
-use Rattle.std.specs.Prelude.{ℕ, Bool, true, false, List, [], ◌∷◌, ◌++◌, Option, None, Some, map, if◌then◌else◌}
+use Rattle.std.specs.Prelude.{ℕ, Bool, List, [], ◌∷◌, Option, None, Some, if◌then◌else◌}
 use Rattle.std.specs.List.{flat_map, list_all, list_any}
 use Rattle.std.specs.Str.{bytes_eq}
 use Rattle.xf_markup.specs.declared.tree.Attr.{Attr}
 use Rattle.xf_markup.specs.declared.tree.Node.{Node}
 use Rattle.xf_markup.specs.declared.tree.Piece.{Piece, Piece-F, out-Piece}
-use Rattle.xs_fields.specs.Words.{is_space}
 
 -- the value of the first attribute with this name
 abbrev pub value_in : List ℕ → List Attr → Option (List ℕ)

@@ -1,6 +1,6 @@
 -- The domain of a text of integers and ranges: its ranges may come in any order, touch and overlap (XCSP3-core,
 -- "Variables").
-use Rattle.std.specs.Prelude.{ℤ, pos, ◌+ℤ◌, ◌<ℤ◌, ◌≤ℤ◌, Bool, true, false, int_le, int_lt, List, [], ◌∷◌, Option, None, Some, if◌then◌else◌}
+use Rattle.std.specs.Prelude.{pos, ◌+ℤ◌, Bool, true, false, int_le, int_lt, List, [], ◌∷◌, Option, None, Some, if◌then◌else◌}
 use Rattle.xf_num.specs.Span.{Bounds, join_ends}
 
 -- ascending ranges, no two of which touch, with the integers of one more

@@ -9,13 +9,13 @@
 mod domain;
 mod element;
 mod like;
-mod var;
 mod unit;
 mod values;
+mod var;
 
 pub use domain::domain_of;
 pub use element::{attribute, has_only, text_of};
 pub use like::{like_domain, single_domain};
-pub use var::{judge_names, judge_var_fields};
 pub use unit::{domain_for, judge_var, read_var};
 pub use values::{judge_counts, text_domain, values_of, var_domain};
+pub use var::{judge_names, judge_var_fields};

@@ -66,7 +66,13 @@ fn shared<'a>(first: &'a Option<Domain>, rest: &[Option<Domain>]) -> Option<&'a 
     ensures { option_map (λ d. d.now) result ≡ one_domain (first.now ∷ rest.now) }
 {
     match first {
-        Some(domain) => { if have_domain(domain, rest) { Some(domain) } else { None } }
+        Some(domain) => {
+            if have_domain(domain, rest) {
+                Some(domain)
+            } else {
+                None
+            }
+        }
         None => None,
     }
 }

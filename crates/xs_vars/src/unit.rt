@@ -19,7 +19,12 @@ use xs_model::{Decl, Names};
 
 /// The domain of a `var`, by its text or by the declaration that it names. None where it has none. The names are
 /// those of the declarations before it.
-pub fn domain_for(alloc: Global, node: &Node, decls: &[Decl], names: &Names) -> Result<Option<Domain>, NoMemory>
+pub fn domain_for(
+    alloc: Global,
+    node: &Node,
+    decls: &[Decl],
+    names: &Names,
+) -> Result<Option<Domain>, NoMemory>
     requires { names.now ≡ outlines_of decls.now }
     ensures { IfOk result (λ domain. domain ≡ domain_for decls.now node.now) }
 {

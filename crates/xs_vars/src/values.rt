@@ -96,7 +96,11 @@ fn is_counted(cells: u64, values: u64, domain: Option<&Domain>) -> bool
 fn judge_counting(test: bool) -> Option<Condition>
     ensures { result ≡ first_missed (counting_meets test) }
 {
-    if test { None } else { Some(Condition::Counting) }
+    if test {
+        None
+    } else {
+        Some(Condition::Counting)
+    }
 }
 
 // `Fitting` exactly where the test fails.

@@ -48,7 +48,11 @@ pub fn judge_known(test: bool) -> Option<Condition>
 pub fn judge_spelling(test: bool) -> Option<Condition>
     ensures { result ≡ first_missed (spelling_meets test) }
 {
-    if test { None } else { Some(Condition::Spelling) }
+    if test {
+        None
+    } else {
+        Some(Condition::Spelling)
+    }
 }
 
 /// `Naming` exactly where the test fails.
@@ -142,5 +146,7 @@ pub fn judge_names(node: &Node, names: &Names) -> Option<Condition>
     ensures { result ≡ first_missed (names_meet (names_in names.now) node.now) }
 {
     let attrs = node.attrs.as_slice();
-    judge_naming(is_new(names, attribute(attrs, b"id")) && is_earlier(names, attribute(attrs, b"as")))
+    judge_naming(
+        is_new(names, attribute(attrs, b"id")) && is_earlier(names, attribute(attrs, b"as")),
+    )
 }

@@ -1,4 +1,4 @@
-use Rattle.std.proofs.Common.{◌∙◌, ap, subst, sym, Some, ◌↔◌, ℤ}
+use Rattle.std.proofs.Common.{subst, sym, ◌↔◌, ℤ}
 use Rattle.xf_num.specs.Domain.{IsMember}
 use Rattle.xs_vars.proofs.MergedLemmas.{domain_is}
 use Rattle.xs_vars.proofs.domain.domain_of.Goals as goal

@@ -1,5 +1,5 @@
 use Rattle.std.proofs.Common.{◌≡◌, ℕ, Some, None, subst, sym}
-use Rattle.xs_model.specs.Outline.{IsNamed, outlines_of}
+use Rattle.xs_model.specs.Outline.{IsNamed}
 use Rattle.xs_vars.proofs.LikeLemmas.{absent, at_place, present}
 use Rattle.xs_vars.proofs.like.declaration.Goals as goal
 

@@ -13,7 +13,7 @@ returns c =
     let id_found = c.attribute.ensures ∙ ap (λ x. value_in (codes "id") x) c.as_slice-attrs.ensures in
     let as_is : c.judge_as.result ≡ first_missed (as_meets like) = c.judge_as.ensures ∙ ap (λ o. first_missed (as_meets o)) like_is in
     let domain_is : c.judge_domain.result ≡ first_missed (domain_meets like (text_in node.pieces)) =
-        c.judge_domain.ensures ∙ ap (λ o. first_missed (domain_meets o c.as_slice.result.now)) like_is ∙ ap (λ t. first_missed (domain_meets like t)) (c.as_slice.ensures ∙ c.in_ok-text.ensures) in
+    c.judge_domain.ensures ∙ ap (λ o. first_missed (domain_meets o c.as_slice.result.now)) like_is ∙ ap (λ t. first_missed (domain_meets like t)) (c.as_slice.ensures ∙ c.in_ok-text.ensures) in
     let id_is : c.judge_id.result ≡ first_missed (id_meets id) = c.judge_id.ensures ∙ ap (λ o. first_missed (id_meets o)) id_found in
     let known_is : c.judge_known.result ≡ first_missed (known_meets (is_var_known node)) = c.judge_known.ensures ∙ ap (λ b. first_missed (known_meets b)) c.is_var_known.ensures in
     let spelt = c.earlier-spelt.ensures.joins (as_meets like) (domain_meets like (text_in node.pieces)) as_is domain_is in
