@@ -1,3 +1,4 @@
+pub mod Container
 pub mod Elements
 pub mod Like
 pub mod Merged

@@ -32,8 +32,8 @@ pub fn has_only(attrs: &[Attr], names: &[&[u8]]) -> bool
     true
 }
 
-// Whether a name is one of a list.
-fn is_one_of(names: &[&[u8]], name: &[u8]) -> bool
+/// Whether a name is one of a list.
+pub fn is_one_of(names: &[&[u8]], name: &[u8]) -> bool
     ensures { result ≡ is_one_of (map (λ known. known.now) names.now) name.now }
 {
     for known in names {

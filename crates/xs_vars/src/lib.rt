@@ -6,6 +6,7 @@
 //! `judge_var` answers exactly the first condition that a `var` misses.
 #![tactic(auto)]
 
+mod container;
 mod domain;
 mod element;
 mod like;
@@ -13,6 +14,7 @@ mod unit;
 mod values;
 mod var;
 
+pub use container::judge_variables;
 pub use domain::domain_of;
 pub use element::{attribute, has_only, text_of};
 pub use like::{like_domain, single_domain};
