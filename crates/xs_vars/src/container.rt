@@ -32,5 +32,8 @@ pub fn judge_variables(alloc: Global, node: &Node) -> Result<Option<Condition>, 
     let text = text_of(alloc, node)?;
     let known = has_only(node.attrs.as_slice(), &[b"class", b"note"])
         && are_children_known(&[b"var", b"array"], node.pieces.as_slice());
-    Ok(earlier(judge_known(known), judge_spelling(is_blank(text.as_slice()))))
+    Ok(earlier(
+        judge_known(known),
+        judge_spelling(is_blank(text.as_slice())),
+    ))
 }

@@ -3,7 +3,7 @@
 //! It stands on `xf_markup`, `xs_model` and `xs_fields`. `specs/Elements.antt` says what an element's attributes and
 //! text are, `specs/Units.antt` which fault units have, `specs/Merged.antt` which domain ranges have,
 //! `specs/Like.antt` which domain is taken by `as`, and `specs/VarUnit.antt` what a `var` has to meet in all.
-//! `judge_var` answers exactly the first condition that a `var` misses.
+//! `judge_var` answers exactly the first condition that a `var` misses, and `judge_variables` that of `variables`.
 #![tactic(auto)]
 
 mod container;
