@@ -10,6 +10,8 @@ mod container;
 mod domain;
 mod element;
 mod like;
+#[cfg(test)]
+mod tests;
 mod unit;
 mod values;
 mod var;
