@@ -21,6 +21,7 @@ mod variable;
 mod variables;
 mod words;
 
+pub use cells::{are_inside, covered};
 pub use condition::{Condition, earlier};
 pub use identifier::{is_identifier, judge_identifier, read_identifier};
 pub use integer::{judge_integer, read_integer};

@@ -1,4 +1,0 @@
-pub mod LikeLemmas
-pub mod MergedLemmas
-pub mod NameLemmas
-pub mod UnitLemmas

@@ -1,8 +1,1 @@
-pub mod Container
-pub mod Elements
-pub mod Like
-pub mod Merged
-pub mod Units
-pub mod VarDomain
-pub mod VarUnit
-pub mod Variable
+pub mod Declarations

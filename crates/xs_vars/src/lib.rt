@@ -1,25 +1,10 @@
-//! The variables of an instance: what a `var` has to meet, and its domain.
+//! The declarations of an instance, read from its `variables`.
 //!
-//! It stands on `xf_markup`, `xs_model` and `xs_fields`. `specs/Elements.antt` says what an element's attributes and
-//! text are, `specs/Units.antt` which fault units have, `specs/Merged.antt` which domain ranges have,
-//! `specs/Like.antt` which domain is taken by `as`, and `specs/VarUnit.antt` what a `var` has to meet in all.
-//! `judge_var` answers exactly the first condition that a `var` misses, and `judge_variables` that of `variables`.
+//! It stands on `xs_var` and `xs_array`. `specs/Declarations.antt` says which units `variables` has and what they
+//! declare. `read_declarations` answers exactly what is declared, else the fault of the first unit, in document
+//! order, that misses a condition.
 #![tactic(auto)]
 
-mod container;
-mod domain;
-mod element;
-mod like;
-#[cfg(test)]
-mod tests;
-mod unit;
-mod values;
-mod var;
+mod declarations;
 
-pub use container::judge_variables;
-pub use domain::domain_of;
-pub use element::{attribute, has_only, text_of};
-pub use like::{like_domain, single_domain};
-pub use unit::{domain_for, judge_var, read_var};
-pub use values::{judge_counts, text_domain, values_of, var_domain};
-pub use var::{judge_names, judge_var_fields};
+pub use declarations::{Declarations, read_declarations, read_variables};

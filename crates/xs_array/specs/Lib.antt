@@ -1,0 +1,3 @@
+pub mod ArrayUnit
+pub mod Cells
+pub mod DomainChild

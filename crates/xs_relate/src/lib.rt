@@ -1,0 +1,10 @@
+//! The forms of XCSP3-core that compare values: their readers.
+//!
+//! It stands on `xs_fields` and `xs_var`. `specs/Different.antt` says what an `allDifferent` over one list has to
+//! meet. `read_different` answers exactly the constraint of one that misses nothing, else the kind of fault of the
+//! first condition that it misses.
+#![tactic(auto)]
+
+mod different;
+
+pub use different::read_different;

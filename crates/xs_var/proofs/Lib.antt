@@ -1,0 +1,4 @@
+pub mod LikeLemmas
+pub mod MergedLemmas
+pub mod NameLemmas
+pub mod UnitLemmas

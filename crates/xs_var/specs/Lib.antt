@@ -1,0 +1,9 @@
+pub mod Container
+pub mod Elements
+pub mod Like
+pub mod Merged
+pub mod Taken
+pub mod Units
+pub mod VarDomain
+pub mod VarUnit
+pub mod Variable

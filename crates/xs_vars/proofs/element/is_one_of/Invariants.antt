@@ -1,6 +1,0 @@
-use Rattle.std.proofs.Common.{◌≡◌, drop, map}
-use Rattle.xs_vars.specs.Elements.{is_one_of}
-use Rattle.xs_vars.proofs.element.is_one_of.Given as goal
-
-abbrev pub invariant-loop-known : goal.invariant-loop-known
-invariant-loop-known l = is_one_of (map (λ known. known.now) (drop l.known-index l.names)) l.name ≡ is_one_of (map (λ known. known.now) l.names) l.name

@@ -1,0 +1,44 @@
+//! The units of `variables`.
+
+ghost use Rattle.std.specs.Prelude.{◌≡◌, ◌<◌, ◌^◌, IfOk, IfErr, length};
+ghost use Rattle.xs_model.specs.Names.{words};
+ghost use Rattle.xs_model.specs.Outline.{outlines_of};
+ghost use Rattle.xs_var.specs.Taken.{IsRead};
+ghost use Rattle.xs_vars.specs.Declarations.{IsSoundDeclared, declared_of, decls_in, variables_outcome};
+
+use std::alloc::Global;
+use xf_markup::Node;
+use xf_text::Stop;
+use xs_model::{Decls, Names};
+
+/// What an instance declares.
+#[derive(Drop)]
+pub struct Declarations {
+    pub decls: Decls,
+    /// The names of the declarations.
+    pub names: Names,
+    /// Cells of all declarations, undefined ones too.
+    pub cells: u64,
+    /// Values of all domains of more than one range.
+    pub values: u64,
+}
+
+/// What `variables` declares. Refused exactly where a unit misses a condition, with the fault of the first.
+pub fn read_declarations(alloc: Global, node: &Node) -> Result<Declarations, Stop>
+    ensures outcome { IsRead declared_of result (variables_outcome node.now) }
+    ensures names { IfOk result (λ d. d.names ≡ outlines_of d.decls) }
+    ensures sound { IfOk result (λ d. IsSoundDeclared (declared_of d)) }
+    ensures few { IfOk result (λ d. length (words d.decls) < 2 ^ 32) }
+{
+    Err(Stop::Memory)
+}
+
+/// The declarations of `variables` and their names. Refused exactly where a unit misses a condition, with the fault
+/// of the first.
+pub fn read_variables(alloc: Global, node: &Node) -> Result<(Decls, Names), Stop>
+    ensures outcome { IsRead (λ x. x.0) result (decls_in (variables_outcome node.now)) }
+    ensures names { IfOk result (λ x. x.1 ≡ outlines_of x.0) }
+{
+    let read = read_declarations(alloc, node)?;
+    Ok((read.decls, read.names))
+}
