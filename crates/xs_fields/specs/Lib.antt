@@ -6,3 +6,4 @@ pub mod Lists
 pub mod Sizes
 pub mod Variables
 pub mod Cells
+pub mod Terms

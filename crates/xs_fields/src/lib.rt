@@ -17,6 +17,7 @@ mod integer;
 mod pieces;
 mod runs;
 mod sizes;
+mod terms;
 mod variable;
 mod variables;
 mod words;
@@ -28,9 +29,12 @@ pub use integer::{judge_integer, read_integer};
 pub use pieces::{judge_pieces, read_pieces};
 pub use runs::{count_ints, judge_ints, read_ints};
 pub use sizes::{judge_sizes, read_sizes};
+pub use terms::{count_terms, judge_terms, read_terms};
 pub use variable::{Bracket, Brackets, Word, judge_word, read_word};
 pub use variables::{count_vars, judge_vars, reach, read_vars};
 pub use words::{is_blank, next_word};
 
+#[cfg(test)]
+mod list_tests;
 #[cfg(test)]
 mod tests;

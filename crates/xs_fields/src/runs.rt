@@ -42,7 +42,7 @@ fn once(word: &[u8]) -> Result<Run, Condition>
 }
 
 /// What a word of a list of integers spells, or the first of `Spelling` and `Magnitude` that it misses.
-fn read_run(word: &[u8]) -> Result<Run, Condition>
+pub(crate) fn read_run(word: &[u8]) -> Result<Run, Condition>
     ensures { result ≡ judged is_small_run (run_of word.now) }
 {
     let (value, behind) = cut(word, b'x');
@@ -58,7 +58,7 @@ fn read_run(word: &[u8]) -> Result<Run, Condition>
     }
 }
 
-fn judge_run(word: &[u8]) -> Option<Condition>
+pub(crate) fn judge_run(word: &[u8]) -> Option<Condition>
     ensures { result ≡ first_missed (run_meets word.now) }
 {
     read_run(word).err()
@@ -78,7 +78,7 @@ pub fn judge_ints(text: &[u8]) -> Option<Condition>
 }
 
 /// The count with the members of one word more, where it is at most `left`.
-fn with_members(count: u64, word: &[u8], left: u64) -> Option<u64>
+pub(crate) fn with_members(count: u64, word: &[u8], left: u64) -> Option<u64>
     requires { count ≤ left }
     ensures { SomeIff result (count + length (members_of word.now) ≤ left) (count + length (members_of word.now)) }
 {

@@ -62,7 +62,7 @@ pub fn reach(alloc: Global, names: &Names, word: &Word) -> Result<Result<Vars, C
 }
 
 /// The variables that the bytes of a word denote, where it is spelt right.
-fn reach_bytes(
+pub(crate) fn reach_bytes(
     alloc: Global,
     names: &Names,
     word: &[u8],
@@ -73,7 +73,11 @@ fn reach_bytes(
     reach(alloc, names, &word)
 }
 
-fn judge_variable(alloc: Global, names: &Names, word: &[u8]) -> Result<Option<Condition>, NoMemory>
+pub(crate) fn judge_variable(
+    alloc: Global,
+    names: &Names,
+    word: &[u8],
+) -> Result<Option<Condition>, NoMemory>
     ensures { IfOk result (λ missed. missed ≡ first_missed (variable_meets names.now word.now)) }
 {
     let reached = reach_bytes(alloc, names, word)?;
@@ -111,7 +115,7 @@ fn push_variables(
 }
 
 /// The count with the variables of one word more, where it is at most `left`.
-fn with_variables(
+pub(crate) fn with_variables(
     alloc: Global,
     count: u64,
     names: &Names,

@@ -12,12 +12,14 @@ mod expr;
 mod instance;
 mod names;
 mod table;
+mod term;
 mod words;
 
 pub use decl::{Cells, Decl, Decls};
 pub use expr::{Expr, Exprs, Op};
 pub use instance::{Constraint, Constraints, Instance};
 pub use names::{NameStop, Names};
+pub use term::{Term, Terms};
 pub use words::word;
 
 #[cfg(test)]

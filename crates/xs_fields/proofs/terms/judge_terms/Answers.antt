@@ -1,0 +1,11 @@
+use Rattle.std.proofs.Common.{ap, ◌∙◌}
+use Rattle.xs_fields.specs.Terms.{term_meets, term_words_meet}
+use Rattle.xs_fields.specs.Conditions.{all_meet, earlier_of, first_missed}
+use Rattle.xs_fields.specs.Words.{words_of}
+use Rattle.xs_fields.proofs.OrderLemmas.{missed_more}
+use Rattle.xs_fields.proofs.terms.judge_terms.Goals as goal
+
+pub loop-word-preserved : goal.loop-word-preserved
+loop-word-preserved c =
+    ap (λ m. earlier_of m (first_missed (all_meet (term_meets c.args.names.now) (words_of c.in-Some.more.now)))) c.earlier-missed.ensures.value
+    ∙ missed_more (term_meets c.args.names.now) c.loop-word.missed c.in_ok-judged.judged (first_missed (term_words_meet c.args.names.now c.args.text.now)) (words_of c.loop-word.rest.now) (words_of c.in-Some.more.now) c.in-Some.word.now c.in-Some.ensures.value c.in_ok-judged.ensures c.loop-word.invariant
