@@ -56,11 +56,15 @@ impl<T> Row<T> {
 }
 
 impl<T: Drop> Row<T> {
-    /// Appends the item, or drops it and changes nothing.
+    /// Appends the item, or drops it and changes nothing. Room for the first is made for it alone, since many rows
+    /// stay that short.
     pub fn push(&mut self, item: T) -> Result<(), NoMemory>
         ensures ok { OnOk result (self.new ≡ self.old ++ item ∷ []) }
         ensures err { OnErr result (self.new ≡ self.old) }
     {
+        if self.items.is_empty() {
+            self.items.reserve_exact(1)?;
+        }
         self.items.push(item)?;
         Ok(())
     }
