@@ -1,0 +1,4 @@
+mod ChildLemmas
+mod DeclaredLemmas
+mod DomainLemmas
+mod VarLemmas

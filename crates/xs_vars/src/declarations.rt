@@ -6,10 +6,12 @@ ghost use Rattle.xs_model.specs.Outline.{outlines_of};
 ghost use Rattle.xs_var.specs.Taken.{IsRead};
 ghost use Rattle.xs_vars.specs.Declarations.{IsSoundDeclared, declared_of, decls_in, variables_outcome};
 
+use crate::children::{read_children, refused};
 use std::alloc::Global;
 use xf_markup::Node;
 use xf_text::Stop;
 use xs_model::{Decls, Names};
+use xs_var::judge_variables;
 
 /// What an instance declares.
 #[derive(Drop)]
@@ -30,7 +32,11 @@ pub fn read_declarations(alloc: Global, node: &Node) -> Result<Declarations, Sto
     ensures sound { IfOk result (λ d. IsSoundDeclared (declared_of d)) }
     ensures few { IfOk result (λ d. length (words d.decls) < 2 ^ 32) }
 {
-    Err(Stop::Memory)
+    let missed = judge_variables(alloc, node)?;
+    match missed {
+        Some(condition) => Err(refused(condition, node.place)),
+        None => read_children(alloc, node.pieces.as_slice()),
+    }
 }
 
 /// The declarations of `variables` and their names. Refused exactly where a unit misses a condition, with the fault

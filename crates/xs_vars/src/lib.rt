@@ -5,6 +5,11 @@
 //! order, that misses a condition.
 #![tactic(auto)]
 
+mod children;
 mod declarations;
+mod taking;
+#[cfg(test)]
+mod tests;
+mod variable;
 
 pub use declarations::{Declarations, read_declarations, read_variables};
