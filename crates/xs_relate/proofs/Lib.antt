@@ -1,2 +1,2 @@
 mod BelowLemmas
-mod MissedLemmas
+pub mod MissedLemmas

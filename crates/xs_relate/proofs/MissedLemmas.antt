@@ -8,7 +8,7 @@ use Rattle.xs_fields.specs.Sizes.{brackets_of}
 use Rattle.xs_fields.specs.Variables.{bracket_meets, bracket_of, is_small_bracket}
 use Rattle.xs_fields.specs.Words.{words_of}
 use Rattle.xs_fields.specs.declared.condition.Condition.{Condition}
-use Rattle.xs_fields.specs.declared.condition.Condition.TheVariants.{Known, Nesting, Spelling}
+use Rattle.xs_fields.specs.declared.condition.Condition.TheVariants.{Known, Nesting, Spelling, Fitting}
 use Rattle.xs_model.specs.Outline.{Outline}
 use Rattle.xs_var.specs.Elements.{children_of, text_in}
 use Rattle.xs_var.specs.Variable.{known_meets, spelling_meets}
@@ -32,6 +32,10 @@ meets_nesting : {A : Type 0} (small : A → Bool) (o : Option A) → meets small
 meets_nesting small None = refl
 meets_nesting small (Some x) = refl
 
+meets_fitting : {A : Type 0} (small : A → Bool) (o : Option A) → meets small o Fitting ≡ true
+meets_fitting small None = refl
+meets_fitting small (Some x) = refl
+
 word_known : (os : List Outline) (w : List ℕ) → variable_meets os w Known ≡ true
 word_known os w = and_true _ true (all_true (λ b. bracket_meets b Known) (λ b. meets_known is_small_bracket (bracket_of b)) (brackets_of w)) refl
 
@@ -43,6 +47,13 @@ vars_known os text left = and_true _ true (all_true (λ w. variable_meets os w K
 
 vars_nesting : (os : List Outline) (text : List ℕ) (left : ℕ) → vars_meet os text left Nesting ≡ true
 vars_nesting os text left = and_true _ true (all_true (λ w. variable_meets os w Nesting) (word_nesting os) (words_of text)) refl
+
+word_fitting : (os : List Outline) (w : List ℕ) → variable_meets os w Fitting ≡ true
+word_fitting os w = and_true _ true (all_true (λ b. bracket_meets b Fitting) (λ b. meets_fitting is_small_bracket (bracket_of b)) (brackets_of w)) refl
+
+-- an `allDifferent` has no length that may not fit
+pub never_fitting : (os : List Outline) (left : ℕ) (n : Node) → different_meets os left n Fitting ≡ true
+never_fitting os left n = and_true _ true (all_true (λ w. variable_meets os w Fitting) (word_fitting os) (words_of (list_text n))) refl
 
 spelt_after : (v w : Bool) → v ≡ true → w ≡ true → cond (not v) (Some Known) (cond (not w) (Some Nesting) (Some Spelling)) ≡ Some Spelling
 spelt_after true true e f = refl
