@@ -10,5 +10,7 @@ mod held;
 mod judge;
 mod read;
 mod sections;
+#[cfg(test)]
+mod tests;
 
 pub use read::{one_reading, read_instance};

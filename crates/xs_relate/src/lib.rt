@@ -7,6 +7,8 @@
 
 mod child;
 mod different;
+#[cfg(test)]
+mod tests;
 
 pub use child::next_child;
 pub use different::read_different;
