@@ -1,0 +1,4 @@
+mod ConstraintLemmas
+mod OutcomeLemmas
+mod ReadingLemmas
+mod SoundLemmas

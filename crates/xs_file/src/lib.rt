@@ -6,6 +6,11 @@
 //! condition, by its first missed one. `one_reading` says that a text has one of these answers.
 #![tactic(auto)]
 
+mod held;
+mod judge;
 mod read;
+mod sections;
+#[cfg(test)]
+mod tests;
 
-pub use read::read_instance;
+pub use read::{one_reading, read_instance};

@@ -1,0 +1,2 @@
+mod BelowLemmas
+pub mod MissedLemmas

@@ -1,0 +1,175 @@
+//! The sections of an instance.
+
+ghost use Rattle.std.specs.Prelude.{◌≡◌, ◌≢◌, ◌∷◌, [], map, nat_lt, length, IfOk};
+ghost use Rattle.std.specs.List.{flat_map};
+ghost use Rattle.xf_text.specs.declared.fault.Stop.TheVariants.{Refused as StopRefused};
+ghost use Rattle.xs_fields.specs.Conditions.{IsOrMemory, answer, kind_of};
+ghost use Rattle.xs_file.specs.Sections.{Progress, begun, behind_declared, constraint_meets, constraint_unit, constraints_meet, container_unit, instance_outcome, objective_unit, objectives_meet, section_units, sections_outcome};
+ghost use Rattle.xs_model.specs.Outline.{outlines_of, variables_in};
+ghost use Rattle.xs_model.specs.Sound.{IsSoundConstraint};
+ghost use Rattle.xs_relate.specs.Different.{different_of};
+ghost use Rattle.xs_var.specs.Elements.{children_of};
+ghost use Rattle.xs_var.specs.Taken.{IsRead};
+ghost use Rattle.xs_var.specs.Units.{outcome};
+ghost use Rattle.xs_vars.specs.Declarations.{variables_outcome};
+
+use crate::held::Held;
+use crate::judge::{judge_constraints, judge_instance, judge_objectives};
+use std::alloc::Global;
+use xf_markup::{Node, Piece};
+use xf_text::{Fault, FieldStop, Kind, Stop};
+use xs_fields::Condition;
+use xs_model::Constraint;
+use xs_relate::{next_child, read_different};
+use xs_vars::read_declarations;
+
+// A unit at this place misses the condition first.
+fn refused(missed: Condition, place: u64) -> Stop
+    ensures { result ≡ StopRefused (record { kind = kind_of missed; place = place }) }
+{
+    Stop::Refused(Fault {
+        kind: missed.kind(),
+        place,
+    })
+}
+
+// The constraint of a child of `constraints`, behind what is read.
+fn read_constraint(alloc: Global, node: &Node, held: &Held) -> Result<Constraint, FieldStop>
+    ensures value { IsOrMemory result (answer (constraint_meets held.now node.now) (different_of (outlines_of held.now.declared.decls) node.now)) }
+    ensures sound { IfOk result (λ c. IsSoundConstraint (variables_in (outlines_of held.now.declared.decls)) c) }
+{
+    if node.name.as_slice() != b"allDifferent".as_slice() {
+        return Err(FieldStop::Refused(Kind::Unknown));
+    }
+    match read_different(alloc, node, held.names(), held.left()) {
+        Ok(constraint) if held.has_room() => Ok(constraint),
+        Ok(_) => Err(FieldStop::Refused(Kind::Many)),
+        Err(stop) => Err(stop),
+    }
+}
+
+// Appends the constraint of a child of `constraints`.
+fn add_constraint(alloc: Global, node: &Node, held: &mut Held) -> Result<(), Stop>
+    ensures { IsRead (λ _. held.new) result (outcome held.old (constraint_unit node.now ∷ [])) }
+{
+    match read_constraint(alloc, node, held) {
+        Ok(constraint) => {
+            held.add(constraint)?;
+            Ok(())
+        }
+        Err(FieldStop::Refused(kind)) => Err(Stop::Refused(Fault {
+            kind,
+            place: node.place,
+        })),
+        Err(FieldStop::Memory) => Err(Stop::Memory),
+    }
+}
+
+// Appends the constraints of all children.
+fn add_constraints(alloc: Global, pieces: &[Piece], held: &mut Held) -> Result<(), Stop>
+    ensures { IsRead (λ _. held.new) result (outcome held.old (map constraint_unit (children_of pieces.now))) }
+{
+    let mut rest = pieces;
+    while let Some((node, more)) = next_child(rest) {
+        match add_constraint(alloc, node, held) {
+            Ok(()) => rest = more,
+            Err(stop) => return Err(stop),
+        }
+    }
+    Ok(())
+}
+
+// Appends the constraints of `constraints`.
+fn read_constraints(alloc: Global, node: &Node, held: &mut Held) -> Result<(), Stop>
+    ensures { IsRead (λ _. held.new) result (outcome held.old (container_unit constraints_meet node.now ∷ map constraint_unit (children_of node.now.pieces))) }
+{
+    let missed = judge_constraints(alloc, node)?;
+    match missed {
+        Some(missed) => Err(refused(missed, node.place)),
+        None => add_constraints(alloc, node.pieces.as_slice(), held),
+    }
+}
+
+// No objective is known.
+fn read_objective(pieces: &[Piece]) -> Result<(), Stop>
+    ensures { (s : Progress) → IsRead (λ _. s) result (outcome s (map objective_unit (children_of pieces.now))) }
+{
+    match next_child(pieces) {
+        Some((objective, _)) => Err(refused(Condition::Known, objective.place)),
+        None => Ok(()),
+    }
+}
+
+// What `objectives` holds changes nothing of what is read.
+fn read_objectives(alloc: Global, node: &Node) -> Result<(), Stop>
+    ensures { (s : Progress) → IsRead (λ _. s) result (outcome s (container_unit objectives_meet node.now ∷ map objective_unit (children_of node.now.pieces))) }
+{
+    let missed = judge_objectives(alloc, node)?;
+    match missed {
+        Some(missed) => Err(refused(missed, node.place)),
+        None => read_objective(node.pieces.as_slice()),
+    }
+}
+
+// A section behind `variables`; `annotations` is dropped.
+fn read_section(alloc: Global, node: &Node, held: &mut Held) -> Result<(), Stop>
+    ensures { IsRead (λ _. held.new) result (outcome held.old (section_units node.now)) }
+{
+    let name = node.name.as_slice();
+    if name == b"constraints".as_slice() {
+        read_constraints(alloc, node, held)
+    } else if name == b"objectives".as_slice() {
+        read_objectives(alloc, node)
+    } else {
+        Ok(())
+    }
+}
+
+// The sections behind `variables`.
+fn read_rest(alloc: Global, pieces: &[Piece], held: &mut Held) -> Result<(), Stop>
+    ensures { IsRead (λ _. held.new) result (outcome held.old (flat_map section_units (children_of pieces.now))) }
+{
+    let mut rest = pieces;
+    while let Some((node, more)) = next_child(rest) {
+        match read_section(alloc, node, held) {
+            Ok(()) => rest = more,
+            Err(stop) => return Err(stop),
+        }
+    }
+    Ok(())
+}
+
+// The declarations of `variables`.
+fn read_first(alloc: Global, node: &Node) -> Result<Held, Stop>
+    ensures outcome { IsRead (λ h. h.declared) result (variables_outcome node.now) }
+    ensures begun { IfOk result (λ h. h ≡ begun h.declared) }
+{
+    let declarations = read_declarations(alloc, node)?;
+    Ok(Held::new(alloc, declarations))
+}
+
+// `variables`, which is the first child, and the sections behind it.
+fn read_sections(alloc: Global, pieces: &[Piece]) -> Result<Held, Stop>
+    requires { children_of pieces.now ≢ [] }
+    ensures { IsRead (λ h. h) result (sections_outcome (children_of pieces.now)) }
+{
+    match next_child(pieces) {
+        Some((variables, rest)) => {
+            let mut held = read_first(alloc, variables)?;
+            read_rest(alloc, rest, &mut held)?;
+            Ok(held)
+        }
+        None => unreachable!(),
+    }
+}
+
+/// What is read of an instance. Refused exactly where a unit misses a condition, with the fault of the first.
+pub fn read_root(alloc: Global, node: &Node) -> Result<Held, Stop>
+    ensures { IsRead (λ h. h) result (instance_outcome node.now) }
+{
+    let missed = judge_instance(alloc, node)?;
+    match missed {
+        Some(missed) => Err(refused(missed, node.place)),
+        None => read_sections(alloc, node.pieces.as_slice()),
+    }
+}

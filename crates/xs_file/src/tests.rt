@@ -1,0 +1,268 @@
+use crate::{one_reading, read_instance};
+use std::alloc::Global;
+use std::test::Fail;
+use xf_text::{Fault, Kind, Stop};
+use xs_model::{Constraint, Instance};
+
+// How many items all constraints have.
+fn items(instance: &Instance) -> usize {
+    let mut count: usize = 0;
+    for constraint in instance.constraints.as_slice() {
+        match constraint {
+            Constraint::AllDifferent { list } => count = count.saturating_add(list.len()),
+        }
+    }
+    count
+}
+
+// The fault of a text, if it has one.
+fn fault(alloc: Global, text: &[u8]) -> Option<Fault> {
+    match read_instance(alloc, text) {
+        Err(Stop::Refused(fault)) => Some(fault),
+        _ => None,
+    }
+}
+
+// Each text with the numbers of declarations, constraints and items.
+#[test]
+fn reads_instances(rt: HostRuntime) -> Result<(), Fail> {
+    let rows: [(&[u8], usize, usize, usize); 8] = [
+        (b"<instance><variables/></instance>", 0, 0, 0),
+        (
+            b"<?xml version=\"1.0\"?>\n<!-- c --><instance format=\"XCSP3\" type=\"CSP\" class=\"c\" note=\"n\"> <variables> <var id=\"x\"> 0..1 </var> </variables> <constraints id=\"a\" class=\"b\" note=\"c\"> <allDifferent> x </allDifferent> <allDifferent/> </constraints> </instance> ",
+            1,
+            2,
+            1,
+        ),
+        (
+            b"<instance type=\"COP\"><variables><var id=\"x\"> 0..1 </var></variables><objectives class=\"c\"> </objectives><annotations id=\"q\"> z <foo bar=\"1\"/> </annotations><constraints/></instance>",
+            1,
+            0,
+            0,
+        ),
+        (
+            b"<instance><variables><var id=\"x\"> 0 2 </var><var id=\"y\" as=\"x\"/></variables><constraints><allDifferent> <list> x y </list> </allDifferent></constraints></instance>",
+            2,
+            1,
+            2,
+        ),
+        (
+            b"<instance><variables><array id=\"a\" size=\"[2][2]\"> 1..4 </array></variables><constraints><allDifferent> a[0][] </allDifferent><allDifferent> a[][] a[1][0] </allDifferent></constraints></instance>",
+            1,
+            2,
+            7,
+        ),
+        (
+            b"<instance><variables/><annotations/><objectives/><constraints/></instance>",
+            0,
+            0,
+            0,
+        ),
+        (
+            b"<instance><variables><var id=\"x\"> 0 2..4194303 </var></variables><constraints><allDifferent> x </allDifferent><allDifferent/></constraints></instance>",
+            1,
+            2,
+            1,
+        ),
+        (
+            b"<instance><variables><var id=\"x\"> 0..4194304 </var></variables><constraints><allDifferent> x x x </allDifferent></constraints></instance>",
+            1,
+            1,
+            3,
+        ),
+    ];
+    for (text, decls, constraints, count) in rows {
+        let instance = read_instance(rt.alloc(), text)?;
+        assert_eq!(rt; instance.decls.len(), decls);
+        assert_eq!(rt; instance.constraints.len(), constraints);
+        assert_eq!(rt; items(&instance), count);
+    }
+    one_reading();
+    Ok(())
+}
+
+// Faults that stand before any declaration.
+#[test]
+fn refuses_roots(rt: HostRuntime) -> Result<(), Fail> {
+    let rows: [(&[u8], Kind, u64); 17] = [
+        (b"", Kind::Syntax, 0),
+        (b"<instance><variables/><stretch/>", Kind::Syntax, 32),
+        (b"<instance>", Kind::Syntax, 10),
+        (b"<instance/>", Kind::Shape, 0),
+        (
+            b"<instance><constraints/><variables/></instance>",
+            Kind::Shape,
+            0,
+        ),
+        (
+            b"<instance><variables/><variables/></instance>",
+            Kind::Shape,
+            0,
+        ),
+        (
+            b"<instance><variables/><constraints/><constraints/></instance>",
+            Kind::Shape,
+            0,
+        ),
+        (
+            b"<instance><variables/><objectives/><constraints/><objectives/></instance>",
+            Kind::Shape,
+            0,
+        ),
+        (
+            b"<instance><variables/><annotations/><annotations/></instance>",
+            Kind::Shape,
+            0,
+        ),
+        (b"<instance> 0 <variables/></instance>", Kind::Shape, 0),
+        (b"<!-- c --><instance/>", Kind::Shape, 10),
+        (
+            b"<instance><variables/><stretch/></instance>",
+            Kind::Unknown,
+            0,
+        ),
+        (
+            b"<instance> 0 <variables/><stretch/></instance>",
+            Kind::Unknown,
+            0,
+        ),
+        (b"<instances><variables/></instances>", Kind::Unknown, 0),
+        (
+            b"<instance type=\"XYZ\"><variables/></instance>",
+            Kind::Unknown,
+            0,
+        ),
+        (
+            b"<instance id=\"i\"><variables/></instance>",
+            Kind::Unknown,
+            0,
+        ),
+        (b"<instance type=\"csp\"/>", Kind::Unknown, 0),
+    ];
+    for (text, kind, place) in rows {
+        assert_eq!(rt; fault(rt.alloc(), text), Some(Fault { kind, place }));
+    }
+    Ok(())
+}
+
+// Faults of sections and constraints.
+#[test]
+fn refuses_sections(rt: HostRuntime) -> Result<(), Fail> {
+    let rows: [(&[u8], Kind, u64); 14] = [
+        (
+            b"<instance><variables><var id=\"x\"> 0..1 </var></variables><constraints> x </constraints></instance>",
+            Kind::Shape,
+            57,
+        ),
+        (
+            b"<instance><variables><var id=\"x\"> 0..1 </var></variables><constraints rank=\"any\"/></instance>",
+            Kind::Unknown,
+            57,
+        ),
+        (
+            b"<instance><variables><var id=\"x\"> 0..1 </var></variables><constraints><stretch/></constraints></instance>",
+            Kind::Unknown,
+            70,
+        ),
+        (
+            b"<instance><variables><var id=\"x\"> 0..1 </var></variables><constraints><block/></constraints></instance>",
+            Kind::Unknown,
+            70,
+        ),
+        (
+            b"<instance><variables><var id=\"x\"> 0..1 </var></variables><constraints><group> 0 </group></constraints></instance>",
+            Kind::Unknown,
+            70,
+        ),
+        (
+            b"<instance><variables><var id=\"x\"> 0..1 </var></variables><constraints><slide/></constraints></instance>",
+            Kind::Unknown,
+            70,
+        ),
+        (
+            b"<instance><variables><var id=\"x\"> 0..1 </var></variables><constraints><allDifferent> x y </allDifferent></constraints></instance>",
+            Kind::Name,
+            70,
+        ),
+        (
+            b"<instance><variables><var id=\"x\"> 0..1 </var></variables><constraints><allDifferent> 0 </allDifferent></constraints></instance>",
+            Kind::Shape,
+            70,
+        ),
+        (
+            b"<instance><variables><var id=\"x\"> 0..1 </var></variables><objectives><minimize> x </minimize></objectives></instance>",
+            Kind::Unknown,
+            69,
+        ),
+        (
+            b"<instance><variables><var id=\"x\"> 0..1 </var></variables><objectives><minimize/><maximize/></objectives></instance>",
+            Kind::Shape,
+            57,
+        ),
+        (
+            b"<instance><variables><var id=\"x\"> 0..1 </var></variables><objectives> x </objectives></instance>",
+            Kind::Shape,
+            57,
+        ),
+        (
+            b"<instance><variables><var id=\"x\"> 0..1 </var></variables><objectives id=\"o\"/></instance>",
+            Kind::Unknown,
+            57,
+        ),
+        (
+            b"<instance><variables><var id=\"x\"> 0 2..4194304 </var></variables><constraints><allDifferent/><allDifferent> x </allDifferent></constraints></instance>",
+            Kind::Many,
+            93,
+        ),
+        (
+            b"<instance><variables><var id=\"x\"> 0 2..4194302 </var></variables><constraints><allDifferent> x x </allDifferent><allDifferent> x </allDifferent></constraints></instance>",
+            Kind::Many,
+            112,
+        ),
+    ];
+    for (text, kind, place) in rows {
+        assert_eq!(rt; fault(rt.alloc(), text), Some(Fault { kind, place }));
+    }
+    Ok(())
+}
+
+// Of two faults, that of the unit that comes first in the text.
+#[test]
+fn refuses_by_the_first_unit(rt: HostRuntime) -> Result<(), Fail> {
+    let rows: [(&[u8], Kind, u64); 6] = [
+        (
+            b"<instance><variables><var/></variables><constraints><stretch/></constraints></instance>",
+            Kind::Shape,
+            21,
+        ),
+        (
+            b"<instance><variables><var id=\"x\"> 0..1 </var></variables><constraints> 0 <stretch/></constraints></instance>",
+            Kind::Shape,
+            57,
+        ),
+        (
+            b"<instance><variables><var id=\"x\"> 0..1 </var></variables><constraints><allDifferent> y </allDifferent><stretch/></constraints></instance>",
+            Kind::Name,
+            70,
+        ),
+        (
+            b"<instance><variables><var id=\"x\"> 0..1 </var></variables><constraints><allDifferent> x </allDifferent><stretch/><allDifferent> y </allDifferent></constraints></instance>",
+            Kind::Unknown,
+            102,
+        ),
+        (
+            b"<instance><variables><var id=\"x\"> 0..1 </var></variables><objectives><minimize/></objectives><constraints><stretch/></constraints></instance>",
+            Kind::Unknown,
+            69,
+        ),
+        (
+            b"<instance><variables><var id=\"x\"> 0..1 </var></variables><constraints><stretch/></constraints><objectives><minimize/></objectives></instance>",
+            Kind::Unknown,
+            70,
+        ),
+    ];
+    for (text, kind, place) in rows {
+        assert_eq!(rt; fault(rt.alloc(), text), Some(Fault { kind, place }));
+    }
+    Ok(())
+}
