@@ -5,9 +5,8 @@ use Rattle.xf_carry.specs.Lowered.{low}
 use Rattle.xf_text.specs.Outside.{file_named}
 use Rattle.xf_text.specs.declared.fault.Fault.{Fault}
 use Rattle.xf_text.specs.declared.fault.Kind.TheVariants.{Long}
-use Rattle.xf_text.specs.declared.fault.Stop.TheVariants.{Refused}
 use Rattle.xf_text.specs.declared.outside.Stored.{Stored}
-use Rattle.xs_first.specs.FirstForm.{IsFirstForm, IsRefusal}
+use Rattle.xs_file.specs.Reading.{IsFaulty, Spells}
 use Rattle.xs_model.specs.declared.instance.Instance.{Instance}
 use Rattle.xf_top.specs.declared.words.Command.{Command}
 use Rattle.xf_top.specs.declared.words.Command.TheVariants.{ToFzn}
@@ -17,17 +16,19 @@ use Rattle.xf_top.specs.Words.{command_of, file_of}
 abbrev pub most_bytes : ℕ
 most_bytes = 67108864
 
--- the bytes of a file are read as an instance
+-- the bytes of a file are read as an instance: they are no more than the most, they are markup of one element of at
+-- most 200 levels, and none of its units misses a condition; the instance is what they declare and constrain
 pub record IsReadAs (bytes : List ℕ) (i : Instance) : Type 0 where
   pub short : length bytes ≤ most_bytes
-  pub spells : IsFirstForm bytes i
+  pub spells : Spells bytes i
 
 abbrev pub long_fault : Fault
 long_fault = record { kind = Long; place = most_bytes }
 
--- the bytes of a file are refused as an instance: there are too many of them, or they have a fault
+-- the bytes of a file are refused as an instance: there are too many of them, or they have a fault, which is that of
+-- their markup (F2, F7), else that of the first unit in document order that misses a condition
 abbrev pub IsRefusedAs : List ℕ → Fault → Type 0
-IsRefusedAs bytes fault = ((most_bytes < length bytes) × (fault ≡ long_fault)) ⊎ ((length bytes ≤ most_bytes) × IsRefusal bytes (Refused fault))
+IsRefusedAs bytes fault = ((most_bytes < length bytes) × (fault ≡ long_fault)) ⊎ ((length bytes ≤ most_bytes) × IsFaulty bytes fault)
 
 pub data Outcome : Type 0 where
   Refuses : (fault : Fault) → Outcome

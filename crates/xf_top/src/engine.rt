@@ -20,10 +20,12 @@ use lo_base::EmitStop;
 use std::alloc::Global;
 use xf_carry::{low_extends, write_lowered};
 use xf_text::{Shelf, Sink};
+use xs_file::one_reading;
 use xs_model::Instance;
 
 /// Does what the words say, with the files and what takes the text; messages go to `err`. Answers the status and
-/// gives back what takes the text.
+/// gives back what takes the text. A file is read as an instance where it has at most 67,108,864 bytes, which are
+/// markup of at most 200 levels, and each of its units meets what is asked of it; else it is refused with one fault.
 pub fn run<S: Shelf, W: Sink, E: Sink>(
     alloc: Global,
     words: &[String],
@@ -35,7 +37,8 @@ pub fn run<S: Shelf, W: Sink, E: Sink>(
     // Status 6 comes exactly where the words are no command; no call is made then on the files or on what takes the text.
     ensures no_command { (result.0 ≡ 6) ↔ (command_of (map string_bytes words.now) ≡ None) }
     ensures untouched { result.0 ≡ 6 → (files.new ≡ files.old) × (result.1 ≡ out) }
-    // Status 2: the file that the command reads first is refused, with the fault that the line names.
+    // Status 2: the file that the command reads first is refused, with the fault that the line names: it is too long, is
+    // no markup from there on or nested too deep there, or has there the first unit that misses a condition.
     ensures refused { result.0 ≡ 2 → (fault : Fault) × WordsComeTo (S.files files.old) (map string_bytes words.now) (Refuses fault) × Says (E.faults err.old) (E.faults err.new) (E.holds err.old) (E.holds err.new) (refusal_line fault (subject (map string_bytes words.now))) }
     // Status 3 comes only where a call on the files failed, status 4 only where a call on what takes the text did.
     ensures read_fault { result.0 ≡ 3 → Rose (S.faults files.old) (S.faults files.new) }
@@ -47,13 +50,18 @@ pub fn run<S: Shelf, W: Sink, E: Sink>(
     ensures memory { result.0 ≡ 5 → (W.holds result.1 ≡ W.holds out) ⊎ ((text : List ℕ) × WordsComeTo (S.files files.old) (map string_bytes words.now) (Writes text) × AppendedFront (W.holds out) (W.holds result.1) text) }
     // Status 0: exactly the due text was written.
     ensures done { result.0 ≡ 0 → (text : List ℕ) × WordsComeTo (S.files files.old) (map string_bytes words.now) (Writes text) × Appended (W.holds out) (W.holds result.1) text }
+    // Where the files are told, the words come to one outcome at most: what is due above is the due text, and the fault
+    // the one fault.
+    ensures single { IsSome (S.files files.old) → (o p : Outcome) → WordsComeTo (S.files files.old) (map string_bytes words.now) o → WordsComeTo (S.files files.old) (map string_bytes words.now) p → o ≡ p }
     // Where the files are told, each outcome gives its status, unless memory was wanting or a call failed.
     ensures complete { IsSome (S.files files.old) → (o : Outcome) → WordsComeTo (S.files files.old) (map string_bytes words.now) o → Completes result.0 (S.faults files.old) (S.faults files.new) (W.faults out) (W.faults result.1) o }
     // Each status has its line, which is exactly what was appended to `err` where no call on it failed.
     ensures line { (answer : Answer) × (result.0 ≡ status_of answer) × Says (E.faults err.old) (E.faults err.new) (E.holds err.old) (E.holds err.new) (line_of answer (subject (map string_bytes words.now))) }
-    // The theorem: what `to-fzn` writes with status 0 is a FlatZinc model that extends the instance's problem.
+    // The theorem: the file is read as an instance of XCSP3-core, and what `to-fzn` writes with status 0 is a FlatZinc
+    // model that extends the instance's problem.
     ensures extends { command_of (map string_bytes words.now) ≡ Some Command.ToFzn → result.0 ≡ 0 → (text : List ℕ) × IsConverted (S.files files.old) (file_of Command.ToFzn (map string_bytes words.now)) text × Appended (W.holds out) (W.holds result.1) text }
 {
+    one_reading();
     match read_command(words) {
         Some(command) => {
             let file = file_word(command, words);

@@ -8,7 +8,7 @@ ghost use Rattle.xs_model.specs.Sound.{IsAccepted};
 use crate::answers::Answer;
 use std::alloc::Global;
 use xf_text::{Fault, Kind, ReadStop, Shelf, Stop, read_file};
-use xs_first::read_first_form;
+use xs_file::read_instance as read_text;
 use xs_model::Instance;
 
 /// The place of the fault of a file that is too long.
@@ -53,7 +53,7 @@ fn parse_instance(alloc: Global, bytes: &[u8]) -> Result<Instance, Answer>
     ensures accepted { IfOk result (λ i. IsAccepted i) }
     ensures stopped { IfErr result (λ answer. IsUnread bytes.now answer) }
 {
-    match read_first_form(alloc, bytes) {
+    match read_text(alloc, bytes) {
         Ok(instance) => Ok(instance),
         Err(Stop::Refused(fault)) => Err(Answer::Refused(fault)),
         Err(Stop::Memory) => Err(Answer::NoMemory),

@@ -1,7 +1,0 @@
-mod TokenLemmas
-mod ItemLemmas
-mod DeclLemmas
-mod NameLemmas
-mod UseLemmas
-mod FormLemmas
-mod AcceptLemmas
