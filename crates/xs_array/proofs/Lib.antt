@@ -1,0 +1,4 @@
+pub mod FieldLemmas
+pub mod OwnerLemmas
+pub mod PieceLemmas
+pub mod CountLemmas
