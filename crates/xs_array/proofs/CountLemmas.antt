@@ -1,9 +1,9 @@
 -- The number of cells, size after size.
-use Rattle.std.proofs.Common.{◌≡◌, ℕ, suc, ◌+◌, ◌*◌, ◌<◌, ◌≤◌, Bool, true, false, ◌&&◌, List, [], ◌∷◌, length, drop, get_or, drop-cons, ℤ, pos, negsuc, ◌≤ℤ◌, refl, ap, sym, subst, ◌∙◌, arith}
+use Rattle.std.proofs.Common.{◌≡◌, ℕ, zero, suc, ◌+◌, ◌*◌, ◌<◌, ◌≤◌, Bool, true, false, ◌&&◌, List, [], ◌∷◌, length, drop, get_or, drop-cons, ℤ, pos, negsuc, ◌≤ℤ◌, refl, ap, sym, subst, ◌∙◌, arith, rules}
 use Rattle.std.specs.Prelude.{int_le}
 use Rattle.std.specs.List.{AllByRecursion}
 use Rattle.std.proofs.lemmas.Int.{ints}
-use Rattle.std.proofs.Math.Nat.{mul-le-mul_left}
+use Rattle.std.proofs.Math.Nat.{mul-le-mul_left, mul_assoc}
 use Rattle.xs_fields.proofs.IntegerLemmas.{and_left, and_right}
 use Rattle.xs_model.specs.Names.{places_of}
 use Rattle.xs_model.specs.Sound.{IsSize, cell_count}
@@ -44,5 +44,30 @@ next_size sizes i h e =
     subst (λ (k : ℕ). NextSize (get_or sizes i (pos 0)) (drop i sizes) (drop k sizes)) s
     (subst (λ (ns : List ℤ). NextSize (get_or sizes i (pos 0)) ns (drop (suc i) sizes)) (sym cut) (next_of (get_or sizes i (pos 0)) (drop (suc i) sizes) (ap are_positive (sym cut) ∙ e)))
 
-pub longer : (ys zs : List ℤ) (i : ℕ) (rest : List ℤ) → i < length ys → rest ≡ [] → is_same_list (drop i ys) rest ≡ is_same_list ys zs → false ≡ is_same_list ys zs
-longer ys zs i rest h none e = ap (λ (ns : List ℤ). is_same_list ns []) (sym (drop-cons ys i (pos 0) h)) ∙ ap (λ (ms : List ℤ). is_same_list (drop i ys) ms) (sym none) ∙ e
+pub longer : (ys zs : List ℤ) (i : ℕ) (rest : List ℤ) → i < length ys → length rest ≡ 0 → is_same_list (drop i ys) rest ≡ is_same_list ys zs → false ≡ is_same_list ys zs
+longer ys zs i (n ∷ ns) h none e = absurd (omega (arith, none))
+longer ys zs i [] h none e = ap (λ (ns : List ℤ). is_same_list ns []) (sym (drop-cons ys i (pos 0) h)) ∙ e
+
+-- the number of cells is past each product before
+pub too_many : (count p r here total most : ℕ) → 1 ≤ r → here ≡ p * r → count * here ≡ total → total ≤ most → count * p ≤ most
+too_many count p r here total most some is all few =
+    let more : (count * p) * 1 ≤ (count * p) * r = mul-le-mul_left (count * p) some in
+    let same : (count * p) * r ≡ count * (p * r) = mul_assoc count p r in
+    let step : count * here ≡ count * (p * r) = ap (λ x. count * x) is in
+    omega (arith, more, same, step, all, few)
+
+pub product_next : (count p r here total : ℕ) → here ≡ p * r → count * here ≡ total → (count * p) * r ≡ total
+product_next count p r here total is all = mul_assoc count p r ∙ ap (λ x. count * x) (sym is) ∙ all
+
+pub product_some : (count p : ℕ) → 1 ≤ count → 1 ≤ p → 1 ≤ count * p
+product_some count p h g = omega (arith, h, mul-le-mul_left count g)
+
+-- no size of an array makes no cell
+pub no_cells : (ns : List ℤ) → are_positive ns ≡ false → cell_count ns ≡ 0
+no_cells [] h = cc
+no_cells (pos zero ∷ ns) h = omega arith
+no_cells (pos (suc m) ∷ ns) h =
+    let one : int_le (pos 1) (pos (suc m)) ≡ true = search rules in
+    let rest : cell_count ns ≡ 0 = no_cells ns (ap (λ v. v && are_positive ns) (sym one) ∙ h) in
+    ap (λ x. suc m * x) rest ∙ omega arith
+no_cells (negsuc m ∷ ns) h = omega arith

@@ -1,5 +1,5 @@
 -- What the fields of an array miss first: the sizes bear on the content by one late condition alone.
-use Rattle.std.proofs.Common.{◌≡◌, ℕ, Bool, true, false, not, ◌&&◌, ◌||◌, cond, List, [], ◌∷◌, ◌++◌, ℤ, Option, None, Some, drop, length, ◌<◌, ◌+◌, codes, is_some, refl, ap, sym, ◌∙◌, arith, drop-cons, get_or, suc, nat_eq}
+use Rattle.std.proofs.Common.{◌≡◌, ℕ, Bool, true, false, not, ◌&&◌, ◌||◌, cond, List, [], ◌∷◌, ◌++◌, ℤ, Option, None, Some, drop, length, ◌<◌, ◌+◌, codes, is_some, refl, ap, sym, ◌∙◌, arith, drop-cons, get_or, suc, nat_eq, bytes_eq}
 use Rattle.std.proofs.lemmas.Bool.{false≢true}
 use Rattle.std.proofs.lemmas.Bool.Decides.{nat_tests}
 use Rattle.std.specs.List.{AllByRecursion, find, flat_map, list_all}
@@ -8,18 +8,20 @@ use Rattle.xf_markup.specs.declared.tree.Piece.{Piece, Piece-F, out-Piece}
 use Rattle.xs_fields.specs.Conditions.{all_meet, earlier_of, first_missed, in_order, meets}
 use Rattle.xs_fields.specs.Lists.{piece_meets, pieces_meet}
 use Rattle.xs_fields.specs.Sizes.{brackets_of, front_meets, size_meets as part_meets, sizes_meet, sizes_of}
-use Rattle.xs_fields.specs.Variables.{bracket_meets, word_meets}
+use Rattle.xs_fields.specs.Variables.{bracket_meets, word_meets, word_of}
+use Rattle.xs_fields.specs.Cells.{are_inside}
 use Rattle.xs_fields.specs.Words.{is_byte, parts, words_of}
 use Rattle.xs_fields.specs.declared.condition.Condition.{Condition}
 use Rattle.xs_fields.specs.declared.condition.Condition.TheVariants.{Known, Nesting, Spelling, Magnitude, Naming, Counting, Fitting}
 use Rattle.xs_fields.proofs.IntegerLemmas.{and_left, and_right}
 use Rattle.xs_fields.proofs.OrderLemmas.{earlier_assoc, first_missed-both}
 use Rattle.xs_var.specs.Elements.{children_of, piece_nodes, node_step, text_in, text_or_none, value_in}
-use Rattle.xs_var.specs.Variable.{as_meets, has_no_child, id_meets, is_blank, spelling_meets, words_step}
-use Rattle.xs_array.specs.ArrayUnit.{array_fields_meet, content_meets, domains_meet, size_meets}
+use Rattle.xs_var.specs.Variable.{as_meets, has_no_child, id_meets, is_blank, known_meets, naming_meets, spelling_meets, words_step}
+use Rattle.xs_array.specs.ArrayUnit.{array_fields_meet, content_meets, domains_meet, is_array_known, size_meets}
 use Rattle.xs_array.specs.Cells.{stated_sizes}
-use Rattle.xs_array.specs.DomainChild.{cell_word_meets, cell_words_meet, domain_child_meets, for_meets, is_others}
-use Rattle.xs_array.specs.Reading.{content_within, spelt_sizes, where_none}
+use Rattle.xs_array.specs.DomainChild.{cell_word_meets, cell_words_meet, domain_child_meets, for_meets, is_cell_word, is_others}
+use Rattle.xs_array.specs.Owners.{AreCells, HasCells, IsCellWord}
+use Rattle.xs_array.specs.Reading.{HasContent, content_within, spelt_sizes, where_none}
 
 find_none : (t : Condition → Bool) (ks : List Condition) → find (λ k. not (t k)) ks ≡ None → list_all t ks ≡ true
 find_none t [] h = refl
@@ -261,3 +263,73 @@ blank_is true [] f g = refl
 blank_is true (w ∷ ws) f g = let bad : w ∷ ws ≡ [] = f refl in cc
 blank_is false [] f g = absurd (false≢true (g refl))
 blank_is false (w ∷ ws) f g = grind (arith, nat_tests)
+
+each_of : {A : Type 0} (t : A → Condition → Bool) (xs : List A) → ((k : Condition) → list_all (λ x. t x k) xs ≡ true) → AllByRecursion (λ x. (k : Condition) → t x k ≡ true) xs
+each_of t [] h = tt
+each_of t (x ∷ xs) h = (λ k. and_left (t x k) (list_all (λ x. t x k) xs) (h k), each_of t xs (λ k. and_right (t x k) (list_all (λ x. t x k) xs) (h k)))
+
+or_rest : (a b : Bool) → a ≡ false → (a || b) ≡ true → b ≡ true
+or_rest true b e h = cc
+or_rest false b e h = h
+
+all_turned : {A : Type 0} (P Q : A → Type 0) → ((x : A) → P x → Q x) → (xs : List A) → AllByRecursion P xs → AllByRecursion Q xs
+all_turned P Q h [] g = tt
+all_turned P Q h (x ∷ xs) g = (h x g.0, all_turned P Q h xs g.1)
+
+cell_word : (name : List ℕ) (sizes : List ℤ) (w : List ℕ) → ((k : Condition) → cell_word_meets name sizes w k ≡ true) → IsCellWord sizes w
+cell_word name sizes w h =
+    (all_met (word_meets w) (λ k. and_left (word_meets w k) (naming_meets (is_cell_word name sizes (word_of w)) k) (h k)),
+    and_right (bytes_eq (word_of w).name name) (are_inside sizes (word_of w).brackets) (and_right (word_meets w Naming) (is_cell_word name sizes (word_of w)) (h Naming)))
+
+for_cells : (name : List ℕ) (sizes : List ℤ) (v : Option (List ℕ)) → ((k : Condition) → for_meets name sizes v k ≡ true) → AreCells sizes (text_or_none v)
+for_cells name sizes None h = absurd (false≢true (h Spelling))
+for_cells name sizes (Some text) h = λ other. all_turned (λ w. (k : Condition) → cell_word_meets name sizes w k ≡ true) (IsCellWord sizes) (cell_word name sizes) (words_of text) (each_of (cell_word_meets name sizes) (words_of text) (λ k. or_rest (is_others text) (cell_words_meet name sizes text k) other (h k)))
+
+children_cells : (name : List ℕ) (sizes : List ℤ) (cs : List Node) (text : List ℕ) → ((k : Condition) → domains_meet name sizes cs text k ≡ true) → AllByRecursion (HasCells sizes) cs
+children_cells name sizes [] text h = tt
+children_cells name sizes (c ∷ cs) text h =
+    all_turned (λ d. (k : Condition) → domain_child_meets name sizes d k ≡ true) (HasCells sizes)
+    (λ d g. for_cells name sizes (value_in (codes "for") d.attrs) (λ k. and_left (for_meets name sizes (value_in (codes "for") d.attrs) k) (pieces_meet (text_in d.pieces) k) (g k)))
+    (c ∷ cs)
+    (each_of (domain_child_meets name sizes) (c ∷ cs) (λ k. and_right (spelling_meets (is_blank text) k) (list_all (λ d. domain_child_meets name sizes d k) (c ∷ cs)) (h k)))
+
+-- what is met of the parts of the element, where nothing is missed
+pub record PartsMet (n : Node) : Type 0 where
+  pub id : (k : Condition) → id_meets (value_in (codes "id") n.attrs) k ≡ true
+  pub size : (k : Condition) → size_meets (value_in (codes "size") n.attrs) k ≡ true
+  pub content : (k : Condition) → content_meets (value_in (codes "as") n.attrs) n k ≡ true
+
+pub parts_met : (n : Node) → first_missed (array_fields_meet n) ≡ None → PartsMet n
+parts_met n h = record {
+  id = λ k. and_left (id k) (like k && (size k && content k)) (behind k);
+  size = λ k. and_left (size k) (content k) (later k);
+  content = λ k. and_right (size k) (content k) (later k);
+}
+  where
+    id : Condition → Bool
+    id k = id_meets (value_in (codes "id") n.attrs) k
+
+    like : Condition → Bool
+    like k = as_meets (value_in (codes "as") n.attrs) k
+
+    size : Condition → Bool
+    size k = size_meets (value_in (codes "size") n.attrs) k
+
+    content : Condition → Bool
+    content k = content_meets (value_in (codes "as") n.attrs) n k
+
+    behind : (k : Condition) → (id k && (like k && (size k && content k))) ≡ true
+    behind k = and_right (known_meets (is_array_known n) k) (id k && (like k && (size k && content k))) (met_at (array_fields_meet n) h k)
+
+    later : (k : Condition) → (size k && content k) ≡ true
+    later k = and_right (like k) (size k && content k) (and_right (id k) (like k && (size k && content k)) (behind k))
+
+pub has_content : (n : Node) → first_missed (array_fields_meet n) ≡ None → HasContent n
+has_content n h none = by (value_in (codes "as") n.attrs) none (parts_met n h).content
+  where
+    by : (like : Option (List ℕ)) → like ≡ None → ((k : Condition) → content_meets like n k ≡ true) → AllByRecursion (HasCells (stated_sizes n)) (children_of n.pieces)
+    by (Some like) e g = cc
+    by None e g = children_cells (text_or_none (value_in (codes "id") n.attrs)) (stated_sizes n) (children_of n.pieces) (text_in n.pieces) g
+
+pub spelt_stated : (n : Node) → first_missed (array_fields_meet n) ≡ None → spelt_sizes (value_in (codes "size") n.attrs) ≡ stated_sizes n
+spelt_stated n h = ap (λ o. where_none o (stated_sizes n)) (all_met (size_meets (value_in (codes "size") n.attrs)) (parts_met n h).size)

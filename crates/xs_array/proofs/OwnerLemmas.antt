@@ -1,8 +1,8 @@
 -- The table of the children that name each cell first, child after child.
-use Rattle.std.proofs.Common.{◌≡◌, ℕ, zero, suc, ◌+◌, ◌-◌, ◌*◌, ◌<◌, ◌≤◌, Bool, true, false, not, ◌&&◌, ◌||◌, nat_eq, List, [], ◌∷◌, ◌++◌, length, map, replicate, get_or, slice_index, ℤ, pos, negsuc, ◌≤ℤ◌, Option, None, Some, is_some, refl, ap, sym, subst, ◌∙◌, arith, rules, append_assoc, append-nil, length-append, if◌then◌else◌}
+use Rattle.std.proofs.Common.{◌≡◌, ℕ, zero, suc, ◌+◌, ◌-◌, ◌*◌, ◌<◌, ◌≤◌, Bool, true, false, not, ◌&&◌, ◌||◌, nat_eq, List, [], ◌∷◌, ◌++◌, length, map, take, replicate, get_or, slice_index, ℤ, pos, negsuc, ◌≤ℤ◌, Option, None, Some, is_some, refl, ap, sym, subst, ◌∙◌, arith, rules, append_assoc, append-nil, length-append, if◌then◌else◌}
 use Rattle.std.specs.List.{AllByRecursion, flat_map, list_all, list_any, range_with_len}
 use Rattle.std.proofs.lemmas.Int.{ints}
-use Rattle.std.proofs.lemmas.List.FromFn.{fill_by_all}
+use Rattle.std.proofs.lemmas.List.FromFn.{fill_by_all, length-map-range_with_len}
 use Rattle.std.proofs.Math.Nat.{mul-le-mul_left, mul-le-mul_right, mul_assoc}
 use Rattle.xf_markup.specs.declared.tree.Node.{Node}
 use Rattle.xf_num.specs.Span.{Bounds}
@@ -27,7 +27,7 @@ all_append : {A : Type 0} (P : A → Type 0) (xs ys : List A) → AllByRecursion
 all_append P [] ys h g = g
 all_append P (x ∷ xs) ys h g = (h.0, all_append P xs ys h.1 g)
 
-all_flat : {A B : Type 0} (P : B → Type 0) (f : A → List B) (xs : List A) → AllByRecursion (λ x. AllByRecursion P (f x)) xs → AllByRecursion P (flat_map f xs)
+pub all_flat : {A B : Type 0} (P : B → Type 0) (f : A → List B) (xs : List A) → AllByRecursion (λ x. AllByRecursion P (f x)) xs → AllByRecursion P (flat_map f xs)
 all_flat P f [] h = tt
 all_flat P f (x ∷ xs) h = all_append P (f x) (flat_map f xs) h.0 (all_flat P f xs h.1)
 
@@ -35,7 +35,11 @@ pub all_more : {A : Type 0} (P Q : A → Type 0) → ((x : A) → P x → Q x) �
 all_more P Q h [] g = tt
 all_more P Q h (x ∷ xs) g = (h x g.0, all_more P Q h xs g.1)
 
-all_range : (P : ℕ → Type 0) (a n : ℕ) → ((i : ℕ) → i < a + n → P i) → AllByRecursion P (range_with_len a n)
+pub all_given : {A : Type 0} (P : A → Type 0) → ((x : A) → P x) → (xs : List A) → AllByRecursion P xs
+all_given P h [] = tt
+all_given P h (x ∷ xs) = (h x, all_given P h xs)
+
+pub all_range : (P : ℕ → Type 0) (a n : ℕ) → ((i : ℕ) → i < a + n → P i) → AllByRecursion P (range_with_len a n)
 all_range P a zero h = tt
 all_range P a (suc n) h = (h a (omega arith), all_range P (a + 1) n (λ i g. h i (omega (arith, g))))
 
@@ -274,3 +278,10 @@ cells_are sizes domains apart owners all c =
 pub defined_are : (sizes : List ℤ) (ns : List Node) → list_all is_some (map child_domain ns) ≡ list_all (λ d. is_some d.domain) (named_all sizes ns)
 defined_are sizes [] = refl
 defined_are sizes (n ∷ ns) = ap (λ v. is_some (child_domain n) && v) (defined_are sizes ns)
+
+pub front_all : (xs ys : List ℕ) → take (length xs) (xs ++ ys) ≡ xs
+front_all [] ys = refl
+front_all (x ∷ xs) ys = ap (λ zs. x ∷ zs) (front_all xs ys)
+
+pub owners_len : (sizes : List ℤ) (domains : List (Option (List Bounds))) (apart : Bool) (owners : List ℕ) (all : List Node) → Claims sizes domains apart owners all → length owners ≡ cell_count sizes
+owners_len sizes domains apart owners all c = ap length c.owners_are ∙ length-map-range_with_len (owner_from 0 (named_all sizes all)) 0 (cell_count sizes)

@@ -74,11 +74,14 @@ fn read_cells(
         return Ok(Err(Condition::Fitting));
     }
     match cell_count(sizes.as_slice()) {
-        Some(count) if cells + count <= MOST_CELLS => {
+        Some(count) => {
+            if cells + count > MOST_CELLS {
+                return Ok(Err(Condition::Counting));
+            }
             let content = read_content(alloc, node, decls, names, sizes.as_slice(), count)?;
             declared(alloc, node, content, cells + count, values, sizes)
         }
-        _ => Ok(Err(Condition::Counting)),
+        None => Ok(Err(Condition::Counting)),
     }
 }
 
