@@ -6,6 +6,12 @@
 //! misses.
 #![tactic(auto)]
 
+mod cells;
+mod child;
+mod fields;
+mod owners;
+#[cfg(test)]
+mod tests;
 mod unit;
 
 pub use unit::read_array;
