@@ -3,3 +3,7 @@ pub mod Runs
 pub mod Flats
 pub mod Written
 pub mod Again
+pub mod DepthLemmas
+pub mod MissedLemmas
+pub mod WordsLemmas
+pub mod ShapeLemmas
