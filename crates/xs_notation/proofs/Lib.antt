@@ -7,3 +7,4 @@ pub mod DepthLemmas
 pub mod MissedLemmas
 pub mod WordsLemmas
 pub mod ShapeLemmas
+pub mod WithinLemmas

@@ -80,10 +80,10 @@ direct-first os w k h =
     let t : Condition → Bool = direct_meets w in
     let n : Bool = name_meets os w Naming in
     stays (t Known) (t Nesting) (t Spelling) (t Magnitude) n k
-        (ap (λ (v : Bool). first_of (t Known) (t Nesting) (t Spelling) (t Magnitude) true true v) (sym (direct-fitting w))
-        ∙ ap (λ (v : Bool). first_of (t Known) (t Nesting) (t Spelling) (t Magnitude) true v (t Fitting)) (sym (direct-counting w))
-        ∙ ap (λ (v : Bool). first_of (t Known) (t Nesting) (t Spelling) (t Magnitude) v (t Counting) (t Fitting)) (sym (direct-naming w))
-        ∙ h)
+    (ap (λ (v : Bool). first_of (t Known) (t Nesting) (t Spelling) (t Magnitude) true true v) (sym (direct-fitting w))
+    ∙ ap (λ (v : Bool). first_of (t Known) (t Nesting) (t Spelling) (t Magnitude) true v (t Fitting)) (sym (direct-counting w))
+    ∙ ap (λ (v : Bool). first_of (t Known) (t Nesting) (t Spelling) (t Magnitude) v (t Counting) (t Fitting)) (sym (direct-naming w))
+    ∙ h)
     ∙ ap (λ (v : Bool). first_of (t Known && true) (t Nesting && true) (t Spelling && true) (t Magnitude && true) (v && n) true true) (sym (direct-naming w))
     ∙ ap (λ (v : Bool). first_of (t Known && true) (t Nesting && true) (t Spelling && true) (t Magnitude && true) (t Naming && n) (v && true) true) (sym (direct-counting w))
     ∙ ap (λ (v : Bool). first_of (t Known && true) (t Nesting && true) (t Spelling && true) (t Magnitude && true) (t Naming && n) (t Counting && true) (v && true)) (sym (direct-fitting w))

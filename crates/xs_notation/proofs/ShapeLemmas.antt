@@ -186,11 +186,11 @@ module _ (os : List Outline) where
         set = ap is_set (expr-Call os op (kept ps)) ∙ ap is_set_layer (out-Node op es) ∙ sym (ap (λ f. f.is_set) (form-Call op (kept ps)));
         exponent = λ h. let no : false ≡ true = sym (ap (λ f. f.is_exponent) (form-Call op (kept ps))) ∙ h in cc;
         shaped = λ h.
-          let all : (is_count op (length fs) && (are_placed op fs && are_formed fs)) ≡ true = sym (ap (λ f. f.is_formed) (form-Call op (kept ps))) ∙ h in
-          let rest = both-right (is_count op (length fs)) (are_placed op fs && are_formed fs) all in
-          let count = subst (IsCount op) (same-count ps) (count-is op (length fs) (both-left (is_count op (length fs)) (are_placed op fs && are_formed fs) all)) in
-          let places = placed-are op es (placed op ps (both-left (are_placed op fs) (are_formed fs) rest)) in
-          shaped-node (expr_of os (Call op (kept ps))) op es (expr-Call os op (kept ps)) (count, places) (all-shaped ps (both-right (are_placed op fs) (are_formed fs) rest));
+            let all : (is_count op (length fs) && (are_placed op fs && are_formed fs)) ≡ true = sym (ap (λ f. f.is_formed) (form-Call op (kept ps))) ∙ h in
+            let rest = both-right (is_count op (length fs)) (are_placed op fs && are_formed fs) all in
+            let count = subst (IsCount op) (same-count ps) (count-is op (length fs) (both-left (is_count op (length fs)) (are_placed op fs && are_formed fs) all)) in
+            let places = placed-are op es (placed op ps (both-left (are_placed op fs) (are_formed fs) rest)) in
+            shaped-node (expr_of os (Call op (kept ps))) op es (expr-Call os op (kept ps)) (count, places) (all-shaped ps (both-right (are_placed op fs) (are_formed fs) rest));
       }
 
   at-layer : (y : Raw-F ((r : Raw) × Agrees r)) → Agrees (roll-Raw (map-Raw ((r : Raw) × Agrees r) Raw (λ p. p.0) y))

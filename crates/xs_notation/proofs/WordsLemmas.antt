@@ -49,9 +49,9 @@ some-begins w rest at h is =
     let s : at + 1 ≡ suc at = omega arith in
     let behind : List ℕ = drop (at + 1) w in
     let cut : parts test rest ≡ [] ∷ parts test behind =
-        ap (parts test) (is ∙ drop-cons w at 0 place.1)
-        ∙ ap (λ (v : Bool). if v then [] ∷ parts test (drop (suc at) w) else onto_first (get_or w at 0) (parts test (drop (suc at) w))) bracket
-        ∙ ap (λ m. [] ∷ parts test (drop m w)) (sym s) in
+    ap (parts test) (is ∙ drop-cons w at 0 place.1)
+    ∙ ap (λ (v : Bool). if v then [] ∷ parts test (drop (suc at) w) else onto_first (get_or w at 0) (parts test (drop (suc at) w))) bracket
+    ∙ ap (λ m. [] ∷ parts test (drop m w)) (sym s) in
     ap (λ ps. first_missed (λ k. front_meets ps k && all_meet size_meets (drop 1 ps) k)) cut
     ∙ sized (parts test behind) (parts-some test behind)
     ∙ ap (λ ps. first_missed (all_meet size_meets (drop 1 ps))) (sym (parts_cut test w at h))

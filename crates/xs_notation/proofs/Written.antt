@@ -69,9 +69,9 @@ opened-named : (fs : List Frame) (w : List ℕ) (o : Option Op) → by_name w �
 opened-named fs w None e p = tt
 opened-named fs w (Some op) e p = record {
   tokens =
-    append-nil (frames_flat fs ++ (name_of op ∷ codes "(" ∷ []))
-    ∙ ap (λ n. frames_flat fs ++ (n ∷ codes "(" ∷ [])) (found-named w op e)
-    ∙ sym (append_assoc (frames_flat fs) (w ∷ []) (codes "(" ∷ []));
+      append-nil (frames_flat fs ++ (name_of op ∷ codes "(" ∷ []))
+      ∙ ap (λ n. frames_flat fs ++ (n ∷ codes "(" ∷ [])) (found-named w op e)
+      ∙ sym (append_assoc (frames_flat fs) (w ∷ []) (codes "(" ∷ []));
   frames = p;
   current = refl;
 }
@@ -103,15 +103,15 @@ parted-written (f ∷ fs) (Some r) ts i =
     let head : List (List ℕ) = name_of f.op ∷ codes "(" ∷ followed rs in
     record {
       tokens =
-        append-nil (outer ++ (name_of f.op ∷ codes "(" ∷ followed (map flat (f.before ++ r ∷ []))))
-        ∙ ap (λ xs. outer ++ (name_of f.op ∷ codes "(" ∷ followed xs)) (map-both flat f.before (r ∷ []))
-        ∙ ap (λ xs. outer ++ (name_of f.op ∷ codes "(" ∷ xs)) (followed-both rs (flat r ∷ []))
-        ∙ sym (append_assoc outer head (flat r ++ codes "," ∷ []))
-        ∙ sym (append_assoc (outer ++ head) (flat r) (codes "," ∷ []))
-        ∙ ap (λ xs. xs ++ codes "," ∷ []) i.tokens;
+          append-nil (outer ++ (name_of f.op ∷ codes "(" ∷ followed (map flat (f.before ++ r ∷ []))))
+          ∙ ap (λ xs. outer ++ (name_of f.op ∷ codes "(" ∷ followed xs)) (map-both flat f.before (r ∷ []))
+          ∙ ap (λ xs. outer ++ (name_of f.op ∷ codes "(" ∷ xs)) (followed-both rs (flat r ∷ []))
+          ∙ sym (append_assoc outer head (flat r ++ codes "," ∷ []))
+          ∙ sym (append_assoc (outer ++ head) (flat r) (codes "," ∷ []))
+          ∙ ap (λ xs. xs ++ codes "," ∷ []) i.tokens;
       frames = both (list_all (λ p. p) (map are_plain (f.before ++ r ∷ []))) (frames_plain fs)
-        (before-more f.before r (both-left (list_all (λ p. p) (map are_plain f.before)) (frames_plain fs) i.frames) i.current)
-        (both-right (list_all (λ p. p) (map are_plain f.before)) (frames_plain fs) i.frames);
+          (before-more f.before r (both-left (list_all (λ p. p) (map are_plain f.before)) (frames_plain fs) i.frames) i.current)
+          (both-right (list_all (λ p. p) (map are_plain f.before)) (frames_plain fs) i.frames);
       current = refl;
     }
 
@@ -123,9 +123,9 @@ closed-empty fs op [] ts i =
     let head : List (List ℕ) = name_of op ∷ codes "(" ∷ [] in
     record {
       tokens =
-        ap (λ xs. outer ++ xs) (flat-Call op [])
-        ∙ sym (append_assoc outer head (codes ")" ∷ []))
-        ∙ ap (λ xs. xs ++ codes ")" ∷ []) (sym (append-nil (outer ++ head)) ∙ i.tokens);
+          ap (λ xs. outer ++ xs) (flat-Call op [])
+          ∙ sym (append_assoc outer head (codes ")" ∷ []))
+          ∙ ap (λ xs. xs ++ codes ")" ∷ []) (sym (append-nil (outer ++ head)) ∙ i.tokens);
       frames = i.frames;
       current = plain-Call op [];
     }
@@ -139,15 +139,15 @@ closed-written (f ∷ fs) (Some r) ts i =
     let head : List (List ℕ) = name_of f.op ∷ codes "(" ∷ followed rs in
     record {
       tokens =
-        ap (λ xs. outer ++ xs) (flat-Call f.op (f.before ++ r ∷ []))
-        ∙ ap (λ xs. outer ++ (name_of f.op ∷ codes "(" ∷ (listed xs ++ codes ")" ∷ []))) (map-both flat f.before (r ∷ []))
-        ∙ ap (λ xs. outer ++ (name_of f.op ∷ codes "(" ∷ (xs ++ codes ")" ∷ []))) (listed-followed rs (flat r))
-        ∙ sym (append_assoc outer (head ++ flat r) (codes ")" ∷ []))
-        ∙ ap (λ xs. xs ++ codes ")" ∷ []) (sym (append_assoc outer head (flat r)) ∙ i.tokens);
+          ap (λ xs. outer ++ xs) (flat-Call f.op (f.before ++ r ∷ []))
+          ∙ ap (λ xs. outer ++ (name_of f.op ∷ codes "(" ∷ (listed xs ++ codes ")" ∷ []))) (map-both flat f.before (r ∷ []))
+          ∙ ap (λ xs. outer ++ (name_of f.op ∷ codes "(" ∷ (xs ++ codes ")" ∷ []))) (listed-followed rs (flat r))
+          ∙ sym (append_assoc outer (head ++ flat r) (codes ")" ∷ []))
+          ∙ ap (λ xs. xs ++ codes ")" ∷ []) (sym (append_assoc outer head (flat r)) ∙ i.tokens);
       frames = both-right (list_all (λ p. p) (map are_plain f.before)) (frames_plain fs) i.frames;
       current =
-        plain-Call f.op (f.before ++ r ∷ [])
-        ∙ before-more f.before r (both-left (list_all (λ p. p) (map are_plain f.before)) (frames_plain fs) i.frames) i.current;
+          plain-Call f.op (f.before ++ r ∷ [])
+          ∙ before-more f.before r (both-left (list_all (λ p. p) (map are_plain f.before)) (frames_plain fs) i.frames) i.current;
     }
 
 -- a word that is no mark
@@ -173,12 +173,15 @@ step-written t s ts i = at-open (bytes_eq t (codes "(")) refl
   where
     is-mark : (m : List ℕ) → bytes_eq t m ≡ true → (o : Option Growing) → IsWrittenOn o (ts ++ m ∷ []) → IsWrittenOn o (ts ++ t ∷ [])
     is-mark m e o = subst (λ k. IsWrittenOn o (ts ++ k ∷ [])) (sym ((bytes_eq-Decides t m).0 e))
+
     at-comma : (v : Bool) → bytes_eq t (codes ",") ≡ v → bytes_eq t (codes "(") ≡ false → bytes_eq t (codes ")") ≡ false → IsWrittenOn (if v then parted s.frames s.current else worded t s.frames s.current) (ts ++ t ∷ [])
     at-comma true e o p = is-mark (codes ",") e (parted s.frames s.current) (parted-written s.frames s.current ts i)
     at-comma false e o p = worded-written t s.frames s.current ts o p e i
+
     at-close : (v : Bool) → bytes_eq t (codes ")") ≡ v → bytes_eq t (codes "(") ≡ false → IsWrittenOn (if v then closed s.frames s.current else (if bytes_eq t (codes ",") then parted s.frames s.current else worded t s.frames s.current)) (ts ++ t ∷ [])
     at-close true e o = is-mark (codes ")") e (closed s.frames s.current) (closed-written s.frames s.current ts i)
     at-close false e o = at-comma (bytes_eq t (codes ",")) refl o e
+
     at-open : (v : Bool) → bytes_eq t (codes "(") ≡ v → IsWrittenOn (if v then opened s.frames s.current else (if bytes_eq t (codes ")") then closed s.frames s.current else (if bytes_eq t (codes ",") then parted s.frames s.current else worded t s.frames s.current))) (ts ++ t ∷ [])
     at-open true e = is-mark (codes "(") e (opened s.frames s.current) (opened-written s.frames s.current ts i)
     at-open false e = at-close (bytes_eq t (codes ")")) refl e

@@ -13,11 +13,7 @@ use xs_model::{Expr, Exprs, Names};
 
 /// The first condition that the words of an expression miss.
 #[cycle(words)]
-pub fn judge_words(
-    alloc: Global,
-    raw: &Raw,
-    names: &Names,
-) -> Result<Option<Condition>, NoMemory>
+pub fn judge_words(alloc: Global, raw: &Raw, names: &Names) -> Result<Option<Condition>, NoMemory>
     ensures { IfOk result (λ missed. missed ≡ first_missed (words_meet names.now raw.now)) }
 {
     match raw {

@@ -4,5 +4,4 @@ ghost use Rattle.xs_notation.specs.Law.{OneNotation};
 /// these it is read again.
 pub fn one_notation()
     ensures { OneNotation }
-{
-}
+{}

@@ -53,11 +53,7 @@ fn variable(alloc: Global, names: &Names, word: &[u8]) -> Result<Result<Expr, Co
 }
 
 /// The operand that a word is, or the first condition that it misses.
-fn read_term(
-    alloc: Global,
-    names: &Names,
-    word: &[u8],
-) -> Result<Result<Expr, Condition>, NoMemory>
+fn read_term(alloc: Global, names: &Names, word: &[u8]) -> Result<Result<Expr, Condition>, NoMemory>
     ensures { IfOk result (λ r. r ≡ term_at names.now word.now) }
 {
     match read_integer(word) {
@@ -68,11 +64,7 @@ fn read_term(
 }
 
 /// The first condition that a word misses.
-pub fn judge_term(
-    alloc: Global,
-    names: &Names,
-    word: &[u8],
-) -> Result<Option<Condition>, NoMemory>
+pub fn judge_term(alloc: Global, names: &Names, word: &[u8]) -> Result<Option<Condition>, NoMemory>
     ensures { IfOk result (λ missed. missed ≡ first_missed (term_meets names.now word.now)) }
 {
     let term = read_term(alloc, names, word)?;

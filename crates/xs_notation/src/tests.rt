@@ -118,13 +118,33 @@ fn show_all(operands: &[Expr], out: &mut Row<u8>) -> Result<(), NoMemory> {
     Ok(())
 }
 
-#[test]
-fn expressions(rt: HostRuntime) -> Result<(), Fail> {
-    let alloc = rt.alloc();
+// What a text denotes as it is shown; nothing where it is refused.
+fn shown(alloc: Global, text: &[u8]) -> Result<Text, Fail> {
+    let mut out = Row::new(alloc);
     let Ok(names) = names(alloc) else {
-        panic!(rt; "want of memory");
+        return Ok(out);
     };
-    let cases: [(&[u8], &[u8]); 18] = [
+    if let Ok(e) = read_expr(alloc, text, &names) {
+        show(&e, &mut out)?;
+    }
+    Ok(out)
+}
+
+// What a text misses first, where `read_expr` says the same.
+fn missed(alloc: Global, text: &[u8]) -> Result<Option<Condition>, Fail> {
+    let Ok(names) = names(alloc) else {
+        return Ok(None);
+    };
+    let missed = judge_notation(alloc, text, &names)?;
+    match (missed, read_expr(alloc, text, &names)) {
+        (Some(missed), Err(FieldStop::Refused(kind))) if kind == missed.kind() => Ok(Some(missed)),
+        _ => Ok(None),
+    }
+}
+
+#[test]
+fn words(rt: HostRuntime) -> Result<(), Fail> {
+    let cases: [(&[u8], &[u8]); 8] = [
         (b"7", b"7"),
         (b" -3\n", b"-3"),
         (b"+04", b"4"),
@@ -133,109 +153,149 @@ fn expressions(rt: HostRuntime) -> Result<(), Fail> {
         (b"x[0][+1]", b"v2"),
         (b"x[1][01]", b"v3"),
         (b"neg(add)", b"neg(v0;)"),
-        (b" add ( add , 1,x[0][0] ) ", b"add(v0;1;v1;)"),
-        (b"le(add(add,add),-2)", b"le(add(v0;v0;);-2;)"),
-        (b"pow(add,+2)", b"pow(v0;2;)"),
-        (b"pow(add,02)", b"pow(v0;2;)"),
-        (b"in(add,set())", b"in(v0;set();)"),
-        (b"in(add,set(1,x[0][1]))", b"in(v0;set(1;v2;);)"),
-        (b"if(add,1,neg(2))", b"if(v0;1;neg(2;);)"),
-        (b"in(add,set(neg(1)))", b"in(v0;set(neg(1;););)"),
-        (b"add\t(\r\nadd,add)", b"add(v0;v0;)"),
-        (b"neg(neg(neg(neg(5))))", b"neg(neg(neg(neg(5;);););)"),
     ];
     for (text, want) in cases {
-        match read_expr(alloc, text, &names) {
-            Ok(e) => {
-                let mut shown = Row::new(alloc);
-                show(&e, &mut shown)?;
-                assert!(rt; shown.as_slice() == want);
-            }
-            Err(_) => assert!(rt; false),
-        }
-        assert_eq!(rt; judge_notation(alloc, text, &names)?, None);
+        assert!(rt; shown(rt.alloc(), text)?.as_slice() == want);
     }
     Ok(())
 }
 
 #[test]
-fn refused_texts(rt: HostRuntime) -> Result<(), Fail> {
-    let alloc = rt.alloc();
-    let Ok(names) = names(alloc) else {
-        panic!(rt; "want of memory");
-    };
-    let cases: [(&[u8], Condition); 63] = [
-        (b"", Condition::Spelling),
-        (b" ", Condition::Spelling),
-        (b"add add", Condition::Spelling),
-        (b"1 2", Condition::Spelling),
-        (b"1,2", Condition::Spelling),
-        (b"(add)", Condition::Spelling),
-        (b"()", Condition::Spelling),
-        (b"neg", Condition::Naming),
-        (b"neg()", Condition::Spelling),
-        (b"neg(", Condition::Spelling),
-        (b"neg(add", Condition::Spelling),
-        (b"neg(add))", Condition::Spelling),
-        (b"neg(add) 1", Condition::Spelling),
-        (b"neg(add)(1)", Condition::Spelling),
-        (b"add(add,)", Condition::Spelling),
-        (b"add(,add)", Condition::Spelling),
-        (b"add(add add)", Condition::Spelling),
-        (b"add(add)", Condition::Spelling),
-        (b"sub(1,2,3)", Condition::Spelling),
-        (b"foo(1,2)", Condition::Spelling),
-        (b"x[0][0](1)", Condition::Spelling),
-        (b"neg(1)neg(1)", Condition::Spelling),
-        (b")", Condition::Spelling),
-        (b",", Condition::Spelling),
-        (b"set(1)", Condition::Spelling),
-        (b"set()", Condition::Spelling),
-        (b"neg(set(1))", Condition::Spelling),
-        (b"in(set(1),add)", Condition::Spelling),
-        (b"in(add,1)", Condition::Spelling),
-        (b"in(set(1),set(1))", Condition::Spelling),
-        (b"in(add,set(set(1)))", Condition::Spelling),
-        (b"pow(add,0)", Condition::Spelling),
-        (b"pow(add,65)", Condition::Spelling),
-        (b"pow(add,add)", Condition::Spelling),
-        (b"pow(2,neg(1))", Condition::Spelling),
-        (b"pow(add,85070591730234615865843651857942052864)", Condition::Spelling),
-        (b"pow(set(1),2)", Condition::Spelling),
-        (b"x[]", Condition::Spelling),
-        (b"x[0][]", Condition::Spelling),
-        (b"x[0..1][0]", Condition::Spelling),
-        (b"x[0][0", Condition::Spelling),
-        (b"x[a][0]", Condition::Spelling),
-        (b"x[][85070591730234615865843651857942052864]", Condition::Spelling),
-        (b"x[0..85070591730234615865843651857942052864][0]", Condition::Spelling),
-        (b"x[0] [0]", Condition::Spelling),
-        (b"1x2", Condition::Spelling),
-        (b"%0", Condition::Spelling),
-        (b"1..2", Condition::Spelling),
-        (b"85070591730234615865843651857942052864", Condition::Magnitude),
-        (b"add(y,-85070591730234615865843651857942052864)", Condition::Magnitude),
-        (b"x[0][85070591730234615865843651857942052864]", Condition::Magnitude),
-        (b"add(z,85070591730234615865843651857942052864,1..2)", Condition::Spelling),
-        (b"y", Condition::Naming),
-        (b"le(y,add)", Condition::Naming),
-        (b"x", Condition::Naming),
-        (b"x[0]", Condition::Naming),
-        (b"x[0][0][0]", Condition::Naming),
-        (b"add[0]", Condition::Naming),
-        (b"x[2][0]", Condition::Naming),
-        (b"x[-1][0]", Condition::Naming),
-        (b"x[1][0]", Condition::Naming),
-        (b"in(1,set(2,y))", Condition::Naming),
-        (b"Add(1,2)", Condition::Spelling),
+fn calls(rt: HostRuntime) -> Result<(), Fail> {
+    let cases: [(&[u8], &[u8]); 9] = [
+        (b" add ( add , 1,x[0][0] ) ", b"add(v0;1;v1;)"),
+        (b"le(add(add,add),-2)", b"le(add(v0;v0;);-2;)"),
+        (b"pow(add,+2)", b"pow(v0;2;)"),
+        (b"pow(add,02)", b"pow(v0;2;)"),
+        (b"in(add,set())", b"in(v0;set();)"),
+        (b"in(add,set(neg(1),x[0][1]))", b"in(v0;set(neg(1;);v2;);)"),
+        (b"if(add,1,neg(2))", b"if(v0;1;neg(2;);)"),
+        (b"add\t(\r\nadd,add)", b"add(v0;v0;)"),
+        (b"neg(neg(neg(5)))", b"neg(neg(neg(5;););)"),
     ];
     for (text, want) in cases {
-        assert_eq!(rt; judge_notation(alloc, text, &names)?, Some(want));
-        match read_expr(alloc, text, &names) {
-            Ok(_) => assert!(rt; false),
-            Err(stop) => assert_eq!(rt; stop, FieldStop::Refused(want.kind())),
-        }
+        assert!(rt; shown(rt.alloc(), text)?.as_slice() == want);
     }
+    Ok(())
+}
+
+#[test]
+fn misspelt_calls(rt: HostRuntime) -> Result<(), Fail> {
+    let cases: [&[u8]; 16] = [
+        b"",
+        b" ",
+        b"add add",
+        b"1 2",
+        b"1,2",
+        b"(add)",
+        b"()",
+        b"neg()",
+        b"neg(",
+        b"neg(add",
+        b"neg(add))",
+        b"neg(add) 1",
+        b"neg(add)(1)",
+        b"add(add,)",
+        b"add(,add)",
+        b"add(add add)",
+    ];
+    for text in cases {
+        assert_eq!(rt; missed(rt.alloc(), text)?, Some(Condition::Spelling));
+    }
+    Ok(())
+}
+
+#[test]
+fn misplaced_operands(rt: HostRuntime) -> Result<(), Fail> {
+    let cases: [&[u8]; 15] = [
+        b"add(add)",
+        b"sub(1,2,3)",
+        b"foo(1,2)",
+        b"Add(1,2)",
+        b"x[0][0](1)",
+        b"neg(1)neg(1)",
+        b")",
+        b",",
+        b"set(1)",
+        b"set()",
+        b"neg(set(1))",
+        b"in(set(1),add)",
+        b"in(add,1)",
+        b"in(set(1),set(1))",
+        b"in(add,set(set(1)))",
+    ];
+    for text in cases {
+        assert_eq!(rt; missed(rt.alloc(), text)?, Some(Condition::Spelling));
+    }
+    Ok(())
+}
+
+#[test]
+fn misspelt_words(rt: HostRuntime) -> Result<(), Fail> {
+    let cases: [&[u8]; 17] = [
+        b"pow(add,0)",
+        b"pow(add,65)",
+        b"pow(add,add)",
+        b"pow(2,neg(1))",
+        b"pow(add,85070591730234615865843651857942052864)",
+        b"pow(set(1),2)",
+        b"x[]",
+        b"x[0][]",
+        b"x[0..1][0]",
+        b"x[0][0",
+        b"x[a][0]",
+        b"x[][85070591730234615865843651857942052864]",
+        b"x[0..85070591730234615865843651857942052864][0]",
+        b"x[0] [0]",
+        b"1x2",
+        b"%0",
+        b"1..2",
+    ];
+    for text in cases {
+        assert_eq!(rt; missed(rt.alloc(), text)?, Some(Condition::Spelling));
+    }
+    Ok(())
+}
+
+#[test]
+fn great_integers(rt: HostRuntime) -> Result<(), Fail> {
+    let cases: [&[u8]; 3] = [
+        b"85070591730234615865843651857942052864",
+        b"add(y,-85070591730234615865843651857942052864)",
+        b"x[0][85070591730234615865843651857942052864]",
+    ];
+    for text in cases {
+        assert_eq!(rt; missed(rt.alloc(), text)?, Some(Condition::Magnitude));
+    }
+    Ok(())
+}
+
+#[test]
+fn names_that_denote_none(rt: HostRuntime) -> Result<(), Fail> {
+    let cases: [&[u8]; 11] = [
+        b"y",
+        b"neg",
+        b"le(y,add)",
+        b"x",
+        b"x[0]",
+        b"x[0][0][0]",
+        b"add[0]",
+        b"x[2][0]",
+        b"x[-1][0]",
+        b"x[1][0]",
+        b"in(1,set(2,y))",
+    ];
+    for text in cases {
+        assert_eq!(rt; missed(rt.alloc(), text)?, Some(Condition::Naming));
+    }
+    Ok(())
+}
+
+// Each condition is asked of the whole text before the next one.
+#[test]
+fn spelling_is_asked_first(rt: HostRuntime) -> Result<(), Fail> {
+    let text = b"add(z,85070591730234615865843651857942052864,1..2)";
+    assert_eq!(rt; missed(rt.alloc(), text)?, Some(Condition::Spelling));
     Ok(())
 }
 
@@ -254,10 +314,16 @@ fn depths(rt: HostRuntime) -> Result<(), Fail> {
     assert!(rt; read_expr(alloc, deep.as_slice(), &names).is_ok());
     // What follows opens one parenthesis where none is open, and is misspelt.
     deep.extend(b"y)(")?;
-    assert_eq!(rt; judge_notation(alloc, deep.as_slice(), &names)?, Some(Condition::Spelling));
+    assert_eq!(rt;
+        judge_notation(alloc, deep.as_slice(), &names)?,
+        Some(Condition::Spelling)
+    );
     // Too many are open at once, and the text is misspelt as well.
     let open = [b'('; 201];
-    assert_eq!(rt; judge_notation(alloc, &open, &names)?, Some(Condition::Nesting));
+    assert_eq!(rt;
+        judge_notation(alloc, &open, &names)?,
+        Some(Condition::Nesting)
+    );
     match read_expr(alloc, &open, &names) {
         Ok(_) => assert!(rt; false),
         Err(stop) => assert_eq!(rt; stop, FieldStop::Refused(Kind::Depth)),

@@ -16,18 +16,18 @@ judge_operands-loop-operand-preserved t c =
     let more = flat_map words_in (drop (i + 1) operands) in
     ap (λ m. earlier_of m (first_missed (all_meet test more))) c.earlier-missed.ensures.value
     ∙ missed-next test c.loop-operand.missed c.in_ok-judged.judged (first_missed (all_meet test (flat_map words_in operands)))
-        (words_in c.operand-item.result) more (flat_map words_in (drop i operands))
-        (words-next i operands c.operand-item.result c.loop-operand-test.true c.operand-item.is) c.in_ok-judged.ensures c.loop-operand.invariant
+    (words_in c.operand-item.result) more (flat_map words_in (drop i operands))
+    (words-next i operands c.operand-item.result c.loop-operand-test.true c.operand-item.is) c.in_ok-judged.ensures c.loop-operand.invariant
 
 pub judge_words-returns-in-Word : goal.judge_words-returns-in-Word
 judge_words-returns-in-Word t c =
     let os = c.args.names.now in
     let test = term_meets os in
     let is : first_missed (words_meet os c.args.raw.now) ≡ first_missed (test c.as_slice.result.now) =
-        ap (λ r. first_missed (words_meet os r)) c.in-Word.is
-        ∙ ap (λ ws. first_missed (all_meet test ws)) (words-Word c.in-Word.word)
-        ∙ missed-one test c.in-Word.word
-        ∙ ap (λ w. first_missed (test w)) (sym c.as_slice.ensures) in
+    ap (λ r. first_missed (words_meet os r)) c.in-Word.is
+    ∙ ap (λ ws. first_missed (all_meet test ws)) (words-Word c.in-Word.word)
+    ∙ missed-one test c.in-Word.word
+    ∙ ap (λ w. first_missed (test w)) (sym c.as_slice.ensures) in
     subst (λ (o : Option Condition). IfOk c.judge_term.result (λ missed. missed ≡ o)) (sym is) c.judge_term.ensures
 
 pub judge_words-returns-in-Call : goal.judge_words-returns-in-Call
@@ -35,7 +35,7 @@ judge_words-returns-in-Call t c =
     let os = c.args.names.now in
     let test = term_meets os in
     let is : first_missed (words_meet os c.args.raw.now) ≡ first_missed (all_meet test (flat_map words_in c.as_slice-in-Call.result.now)) =
-        ap (λ r. first_missed (words_meet os r)) c.in-Call.is
-        ∙ ap (λ ws. first_missed (all_meet test ws)) (words-Call c.in-Call.field-0 c.in-Call.operands)
-        ∙ ap (λ rs. first_missed (all_meet test (flat_map words_in rs))) (sym c.as_slice-in-Call.ensures) in
+    ap (λ r. first_missed (words_meet os r)) c.in-Call.is
+    ∙ ap (λ ws. first_missed (all_meet test ws)) (words-Call c.in-Call.field-0 c.in-Call.operands)
+    ∙ ap (λ rs. first_missed (all_meet test (flat_map words_in rs))) (sym c.as_slice-in-Call.ensures) in
     subst (λ (o : Option Condition). IfOk c.judge_operands.result (λ missed. missed ≡ o)) (sym is) c.judge_operands.ensures
