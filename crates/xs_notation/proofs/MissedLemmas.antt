@@ -1,10 +1,10 @@
 -- What parts miss first, and what the whole misses first.
-use Rattle.std.proofs.Common.{◌≡◌, ℕ, ℤ, List, [], ◌∷◌, ◌++◌, refl, sym, ap, ◌∙◌, Bool, true, false, not, ◌&&◌, cond, if◌then◌else◌, Option, Some, None, Result, Ok, Err}
+use Rattle.std.proofs.Common.{◌≡◌, ℕ, ℤ, List, [], ◌∷◌, ◌++◌, refl, sym, ap, ◌∙◌, Bool, true, false, not, ◌&&◌, cond, if◌then◌else◌, Option, Some, None, Ok, Err}
 use Rattle.std.specs.Result.{result_err}
 use Rattle.xs_fields.specs.Cells.{name_meets, reached}
 use Rattle.xs_fields.specs.Conditions.{all_meet, earlier_of, first_missed, judged, meets}
 use Rattle.xs_fields.specs.Sizes.{brackets_of, size_of, size_meets}
-use Rattle.xs_fields.specs.Variables.{bracket_of, bracket_meets, is_small_bracket, word_meets, word_of}
+use Rattle.xs_fields.specs.Variables.{bracket_of, bracket_meets, is_small_bracket, word_of}
 use Rattle.xs_fields.specs.declared.condition.Condition.{Condition}
 use Rattle.xs_fields.specs.declared.condition.Condition.TheVariants.{Known, Nesting, Spelling, Magnitude, Naming, Counting, Fitting}
 use Rattle.xs_fields.specs.declared.variable.Word.{Word}

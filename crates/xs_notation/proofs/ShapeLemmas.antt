@@ -1,21 +1,20 @@
 -- An expression that misses nothing is well formed.
-use Rattle.std.proofs.Common.{◌≡◌, ℕ, suc, ℤ, pos, negsuc, nat_le, int_le, List, [], ◌∷◌, map, length, refl, sym, ap, subst, ◌∙◌, arith, rules, Bool, true, false, not, ◌&&◌, cond, if◌then◌else◌, Option, Some, None, Result, Ok, Err, All}
-use Rattle.std.specs.List.{list_all}
+use Rattle.std.proofs.Common.{◌≡◌, ℕ, suc, ℤ, pos, negsuc, int_le, List, [], ◌∷◌, map, length, refl, sym, ap, subst, ◌∙◌, arith, rules, Bool, true, false, not, ◌&&◌, cond, Option, Some, None, All}
 use Rattle.std.proofs.lemmas.Grind.{common_steps}
 use Rattle.std.proofs.lemmas.List.Elements.{All-nil, All-cons}
-use Rattle.xs_expr.specs.Shape.{IsCount, ArePlaced, HasShape, IsShaped, is_set, is_set_layer, is_set_operator}
+use Rattle.xs_expr.specs.Shape.{IsCount, IsShaped, is_set, is_set_layer}
 use Rattle.xs_expr.specs.Shaped.{is_count, is_exponent, is_exponent_layer, are_no_sets as are_no_set_exprs, are_placed as are_placed_exprs}
 use Rattle.xs_expr.specs.Words.{is_exponent_value}
 use Rattle.xs_expr.proofs.Shapes.{count-is, placed-are, shaped-Int, shaped-Var, shaped-node}
 use Rattle.xs_fields.specs.Cells.{variables_of}
-use Rattle.xs_fields.specs.Conditions.{first_missed, meets}
+use Rattle.xs_fields.specs.Conditions.{first_missed}
 use Rattle.xs_fields.specs.Integers.{integer_of, is_small}
 use Rattle.xs_fields.specs.declared.condition.Condition.{Condition}
 use Rattle.xs_fields.specs.declared.condition.Condition.TheVariants.{Known, Nesting, Spelling, Magnitude}
 use Rattle.xs_model.specs.Outline.{Outline}
 use Rattle.xs_model.specs.declared.expr.Op.{Op}
 use Rattle.xs_model.specs.declared.expr.Op.TheVariants.{Neg, Abs, Sqr, Add, Mul, Sub, Dist, Div, Mod, Pow, Min, Max, Lt, Le, Gt, Ge, Ne, Eq, Set, In, NotIn, Not, And, Or, Xor, Iff, Imp, If}
-use Rattle.xs_model.specs.declared.expr.Expr.{Expr, Int, Var, Node, out-Expr, roll-Expr, out-roll-Expr}
+use Rattle.xs_model.specs.declared.expr.Expr.{Expr, Int, Var, Node, out-Expr, out-roll-Expr}
 use Rattle.xs_model.specs.declared.expr.Expr.TheVariants.{rolls-Int, rolls-Var, rolls-Node}
 use Rattle.xs_model.specs.declared.expr.Expr.TheOpen.{Expr-F}
 use Rattle.xs_notation.specs.Forms.{Form, form, form_step, are_formed, are_no_sets, are_placed, is_expression}

@@ -1,9 +1,9 @@
 -- The variables of an expression that is read are declared.
-use Rattle.std.proofs.Common.{◌≡◌, ℕ, zero, suc, ◌+◌, ◌<◌, ◌≤◌, ℤ, pos, List, [], ◌∷◌, map, get_or, refl, sym, ap, subst, ◌∙◌, arith, rules, Bool, true, false, if◌then◌else◌, Option, Some, None, Result, Ok, Err}
+use Rattle.std.proofs.Common.{◌≡◌, ℕ, zero, suc, ◌+◌, ◌<◌, ℤ, pos, List, [], ◌∷◌, map, get_or, refl, sym, ap, subst, ◌∙◌, arith, rules, Bool, true, false, if◌then◌else◌, Option, Some, None, Result, Err}
 use Rattle.std.specs.List.{filter_map}
 use Rattle.std.specs.Prelude.{slice_index_or}
 use Rattle.xs_expr.specs.Bounds.{HasVariable, HasVariables}
-use Rattle.xs_fields.specs.Cells.{are_inside, covered_places, declared_at, reached, reached_at, unless_none, variables_at, variables_in as reached_in, variables_of}
+use Rattle.xs_fields.specs.Cells.{are_inside, covered_places, declared_at, reached_at, unless_none, variables_at, variables_in as reached_in, variables_of}
 use Rattle.xs_fields.specs.Conditions.{first_missed}
 use Rattle.xs_fields.specs.Integers.{integer_of}
 use Rattle.xs_fields.specs.Variables.{is_direct, word_of}
@@ -12,7 +12,7 @@ use Rattle.xs_fields.specs.declared.condition.Condition.TheVariants.{Naming}
 use Rattle.xs_fields.specs.declared.variable.Word.{Word as VariableWord}
 use Rattle.xs_model.specs.Outline.{Outline, cell_numbers, defined_count, number_cells, numbers_from, sizes_at, variables_in}
 use Rattle.xs_model.specs.declared.expr.Op.{Op}
-use Rattle.xs_model.specs.declared.expr.Expr.{Expr, Int, Var, Node, roll-Expr, every_made-Expr, every-Expr}
+use Rattle.xs_model.specs.declared.expr.Expr.{Expr, Int, Var, Node, every_made-Expr}
 use Rattle.xs_model.specs.declared.expr.Expr.TheVariants.{rolls-Int, rolls-Var, rolls-Node}
 use Rattle.xs_model.specs.declared.expr.Expr.TheOpen.{Expr-F}
 use Rattle.xs_notation.specs.Reading.{expr_of}

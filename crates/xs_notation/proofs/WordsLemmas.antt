@@ -1,12 +1,11 @@
 -- The brackets of a word, and the words of an expression.
-use Rattle.std.proofs.Common.{◌≡◌, ℕ, suc, ◌+◌, ◌<◌, List, [], ◌∷◌, ◌++◌, map, length, take, drop, get_or, drop-cons, refl, sym, ap, subst, ◌∙◌, arith, rules, Bool, true, false, not, ◌&&◌, if◌then◌else◌, Option, Some, None, position}
+use Rattle.std.proofs.Common.{◌≡◌, ℕ, suc, ◌+◌, ◌<◌, List, [], ◌∷◌, ◌++◌, map, length, drop, get_or, drop-cons, refl, sym, ap, ◌∙◌, arith, rules, Bool, true, false, not, ◌&&◌, if◌then◌else◌, Some, None, position}
 use Rattle.std.specs.List.{flat_map, position_or_len}
 use Rattle.std.proofs.lemmas.List.Sums.{prefix_len_stops}
-use borrow.Author.Tests.{not-true, not-false}
+use borrow.Author.Tests.{not-false}
 use Rattle.xs_fields.specs.Conditions.{all_meet, first_missed}
 use Rattle.xs_fields.specs.Sizes.{brackets_of, size_meets, sizes_meet, front_meets}
 use Rattle.xs_fields.specs.Words.{is_byte, parts, onto_first}
-use Rattle.xs_fields.specs.declared.condition.Condition.{Condition}
 use Rattle.xs_fields.proofs.PartLemmas.{parts_cut, parts_whole, position_some}
 use Rattle.xs_model.specs.declared.expr.Op.{Op}
 use Rattle.xs_notation.specs.declared.raw.Raw.{Raw, Word, Call, the_lemmas}

@@ -1,4 +1,4 @@
-use Rattle.std.proofs.Common.{◌≡◌, ℕ, List, Option, IfOk, sym, ap, subst, ◌∙◌, drop, ◌+◌}
+use Rattle.std.proofs.Common.{◌≡◌, Option, IfOk, sym, ap, subst, ◌∙◌, drop, ◌+◌}
 use Rattle.std.specs.List.{flat_map}
 use Rattle.xs_fields.specs.Conditions.{all_meet, earlier_of, first_missed}
 use Rattle.xs_fields.specs.declared.condition.Condition.{Condition}
