@@ -1,0 +1,10 @@
+pub mod Operators
+pub mod Runs
+pub mod Flats
+pub mod Written
+pub mod Again
+pub mod DepthLemmas
+pub mod MissedLemmas
+pub mod WordsLemmas
+pub mod ShapeLemmas
+pub mod WithinLemmas

@@ -1,0 +1,7 @@
+pub mod Notation
+pub mod Parse
+pub mod Law
+pub mod Nesting
+pub mod Terms
+pub mod Forms
+pub mod Reading

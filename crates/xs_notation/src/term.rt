@@ -1,0 +1,83 @@
+ghost use Rattle.std.specs.Prelude.{◌≡◌, ◌&&◌, IfOk};
+ghost use Rattle.xs_fields.specs.Cells.{name_meets, reached, variables_of};
+ghost use Rattle.xs_fields.specs.Conditions.{first_missed};
+ghost use Rattle.xs_fields.specs.Variables.{word_of};
+ghost use Rattle.xs_notation.specs.Terms.{direct_meets, settled, term_at, term_meets, term_of, variable_in};
+
+use crate::word::judge_direct;
+use std::alloc::Global;
+use xf_num::NoMemory;
+use xs_fields::{Condition, Word, reach, read_integer, read_word};
+use xs_model::{Expr, Names};
+
+/// The first of some variables.
+fn variable_in(variables: &[u32]) -> Expr
+    ensures { result ≡ variable_in variables.now }
+{
+    match variables {
+        [first, ..] => Expr::Var(*first),
+        _ => Expr::Int(0),
+    }
+}
+
+/// The word of these bytes, which miss nothing, so that only memory can be wanting.
+fn parsed(alloc: Global, word: &[u8]) -> Result<Word, NoMemory>
+    ensures { IfOk result (λ w. w ≡ word_of word.now) }
+{
+    match read_word(alloc, word) {
+        Ok(parsed) => Ok(parsed),
+        Err(_) => Err(NoMemory),
+    }
+}
+
+/// The variable that a direct word denotes, or that it misses `Naming`.
+fn named(alloc: Global, names: &Names, word: &[u8]) -> Result<Result<Expr, Condition>, NoMemory>
+    ensures { IfOk result (λ r. r ≡ settled (first_missed (name_meets names.now word.now)) (variable_in (variables_of names.now word.now))) }
+{
+    let parsed = parsed(alloc, word)?;
+    let reached = reach(alloc, names, &parsed)?;
+    match reached {
+        Ok(variables) => Ok(Ok(variable_in(variables.as_slice()))),
+        Err(missed) => Ok(Err(missed)),
+    }
+}
+
+/// The variable of a word, or the first condition that it misses.
+fn variable(alloc: Global, names: &Names, word: &[u8]) -> Result<Result<Expr, Condition>, NoMemory>
+    ensures { IfOk result (λ r. r ≡ settled (first_missed (λ k. direct_meets word.now k && name_meets names.now word.now k)) (variable_in (variables_of names.now word.now))) }
+{
+    match judge_direct(word) {
+        Some(missed) => Ok(Err(missed)),
+        None => named(alloc, names, word),
+    }
+}
+
+/// The operand that a word is, or the first condition that it misses.
+fn read_term(alloc: Global, names: &Names, word: &[u8]) -> Result<Result<Expr, Condition>, NoMemory>
+    ensures { IfOk result (λ r. r ≡ term_at names.now word.now) }
+{
+    match read_integer(word) {
+        Ok(value) => Ok(Ok(Expr::Int(value))),
+        Err(Condition::Spelling) => variable(alloc, names, word),
+        Err(missed) => Ok(Err(missed)),
+    }
+}
+
+/// The first condition that a word misses.
+pub fn judge_term(alloc: Global, names: &Names, word: &[u8]) -> Result<Option<Condition>, NoMemory>
+    ensures { IfOk result (λ missed. missed ≡ first_missed (term_meets names.now word.now)) }
+{
+    let term = read_term(alloc, names, word)?;
+    Ok(term.err())
+}
+
+/// The operand that a word is; 0 where it misses a condition.
+pub fn term(alloc: Global, names: &Names, word: &[u8]) -> Result<Expr, NoMemory>
+    ensures { IfOk result (λ e. e ≡ term_of names.now word.now) }
+{
+    let term = read_term(alloc, names, word)?;
+    match term {
+        Ok(e) => Ok(e),
+        Err(_) => Ok(Expr::Int(0)),
+    }
+}
