@@ -1,5 +1,6 @@
-use Rattle.std.proofs.Common.{◌≡◌, ℕ, ◌+◌, ◌<◌, ◌≤◌, Bool, List, [], ◌∷◌, length, map, is_some, Option, None, Some, ap, arith}
+use Rattle.std.proofs.Common.{◌≡◌, ℕ, ◌+◌, ◌<◌, ◌≤◌, Bool, List, [], ◌∷◌, length, map, is_some, Option, None, Some, Result, IfOk, subst, ap, arith}
 use Rattle.xf_num.specs.Span.{Bounds}
+use Rattle.xs_fields.specs.declared.condition.Condition.{Condition}
 use Rattle.xs_model.specs.declared.decl.Decl.{Decl}
 use Rattle.xs_model.specs.declared.decl.Decl.TheVariants.{One, Array}
 use Rattle.xs_model.specs.Outline.{Outline, defined_count, outline_of, variables_in}
@@ -22,4 +23,6 @@ first_few : (s : Declared) (c : Counted) (os : List Outline) → os ≡ [] → I
 first_few s c os none sound = omega (arith, ap variables_in none, variables_few c.decl, sound.cells, sound.few_cells)
 
 pub declare-added-requires-clause-few : goal.declare-added-requires-clause-few
-declare-added-requires-clause-few c = first_few (record { decls = []; cells = 0; values = 0 }) c.in-Ok.counted c.new-names.result c.new-names.ensures c.in-Ok.ensures
+declare-added-requires-clause-few c =
+    let s : Declared = record { decls = []; cells = 0; values = 0 } in
+    first_few s c.in-Ok.counted c.new-names.result c.new-names.ensures (subst (λ (r : Result Counted Condition). IfOk r (λ x. IsSoundTaken s x)) c.in-Ok.is c.in_ok-first.ensures)
