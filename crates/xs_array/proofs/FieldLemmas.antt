@@ -277,9 +277,10 @@ all_turned P Q h [] g = tt
 all_turned P Q h (x ∷ xs) g = (h x g.0, all_turned P Q h xs g.1)
 
 cell_word : (name : List ℕ) (sizes : List ℤ) (w : List ℕ) → ((k : Condition) → cell_word_meets name sizes w k ≡ true) → IsCellWord sizes w
-cell_word name sizes w h =
-    (all_met (word_meets w) (λ k. and_left (word_meets w k) (naming_meets (is_cell_word name sizes (word_of w)) k) (h k)),
-    and_right (bytes_eq (word_of w).name name) (are_inside sizes (word_of w).brackets) (and_right (word_meets w Naming) (is_cell_word name sizes (word_of w)) (h Naming)))
+cell_word name sizes w h = (
+  all_met (word_meets w) (λ k. and_left (word_meets w k) (naming_meets (is_cell_word name sizes (word_of w)) k) (h k)),
+  and_right (bytes_eq (word_of w).name name) (are_inside sizes (word_of w).brackets) (and_right (word_meets w Naming) (is_cell_word name sizes (word_of w)) (h Naming)),
+)
 
 for_cells : (name : List ℕ) (sizes : List ℤ) (v : Option (List ℕ)) → ((k : Condition) → for_meets name sizes v k ≡ true) → AreCells sizes (text_or_none v)
 for_cells name sizes None h = absurd (false≢true (h Spelling))

@@ -57,13 +57,13 @@ covered_below before (n ∷ ns) (b ∷ bs) h e =
     all_flat (λ t. place_from before (n ∷ ns) t < (before + 1) * (places_of n * cell_count ns)) (λ i. map (λ t. i ∷ t) (covered ns bs)) (indices n b)
     (all_range (λ i. AllByRecursion (λ t. place_from before (n ∷ ns) t < (before + 1) * (places_of n * cell_count ns)) (map (λ t. i ∷ t) (covered ns bs))) (first_index b) (index_count n b)
     (λ i g.
-        let within : i < places_of n = omega (arith, g, extent_within n b h.0 (and_left (is_inside n b) (are_inside ns bs) e)) in
-        let room : (before * places_of n + i) + 1 ≤ (before + 1) * places_of n = omega (arith, within) in
-        let most : ((before * places_of n + i) + 1) * cell_count ns ≤ ((before + 1) * places_of n) * cell_count ns = mul-le-mul_right (cell_count ns) room in
-        let regroup : ((before + 1) * places_of n) * cell_count ns ≡ (before + 1) * (places_of n * cell_count ns) = mul_assoc (before + 1) (places_of n) (cell_count ns) in
-        all_map (λ t. place_from before (n ∷ ns) t < (before + 1) * (places_of n * cell_count ns)) (λ t. i ∷ t) (covered ns bs)
-        (all_more (λ t. place_from (before * places_of n + i) ns t < ((before * places_of n + i) + 1) * cell_count ns) (λ t. place_from (before * places_of n + i) ns t < (before + 1) * (places_of n * cell_count ns)) (λ t k. omega (arith, k, most, regroup)) (covered ns bs)
-        (covered_below (before * places_of n + i) ns bs h.1 (and_right (is_inside n b) (are_inside ns bs) e)))))
+    let within : i < places_of n = omega (arith, g, extent_within n b h.0 (and_left (is_inside n b) (are_inside ns bs) e)) in
+    let room : (before * places_of n + i) + 1 ≤ (before + 1) * places_of n = omega (arith, within) in
+    let most : ((before * places_of n + i) + 1) * cell_count ns ≤ ((before + 1) * places_of n) * cell_count ns = mul-le-mul_right (cell_count ns) room in
+    let regroup : ((before + 1) * places_of n) * cell_count ns ≡ (before + 1) * (places_of n * cell_count ns) = mul_assoc (before + 1) (places_of n) (cell_count ns) in
+    all_map (λ t. place_from before (n ∷ ns) t < (before + 1) * (places_of n * cell_count ns)) (λ t. i ∷ t) (covered ns bs)
+    (all_more (λ t. place_from (before * places_of n + i) ns t < ((before * places_of n + i) + 1) * cell_count ns) (λ t. place_from (before * places_of n + i) ns t < (before + 1) * (places_of n * cell_count ns)) (λ t k. omega (arith, k, most, regroup)) (covered ns bs)
+    (covered_below (before * places_of n + i) ns bs h.1 (and_right (is_inside n b) (are_inside ns bs) e)))))
 
 word_below : (sizes : List ℤ) (w : List ℕ) → AllByRecursion IsSize sizes → IsCellWord sizes w → AllByRecursion (λ p. p < cell_count sizes) (word_places sizes w)
 word_below sizes w h g =
@@ -152,15 +152,15 @@ claiming_next sizes domains more apart free owners next n ns all number positive
   cells = s.cells.1;
   domains_are = ap (λ ds. ds ++ map child_domain ns) more_is ∙ append_assoc domains (child_domain n ∷ []) (map child_domain ns) ∙ s.domains_are;
   apart_is =
-    ap (λ v. (apart && v) && (list_all (λ d. are_free next d.places) (named_all sizes ns) && are_apart (named_all sizes ns))) free_is
-    ∙ ap (λ v. (apart && are_free owners (named_by sizes n).places) && (v && are_apart (named_all sizes ns))) freed
-    ∙ regroup apart (are_free owners (named_by sizes n).places) (list_all (λ d. are_free owners d.places) (named_all sizes ns)) (list_all (λ d. list_all (λ p. not (names_place (named_by sizes n) p)) d.places) (named_all sizes ns)) (are_apart (named_all sizes ns))
-    ∙ s.apart_is;
+      ap (λ v. (apart && v) && (list_all (λ d. are_free next d.places) (named_all sizes ns) && are_apart (named_all sizes ns))) free_is
+      ∙ ap (λ v. (apart && are_free owners (named_by sizes n).places) && (v && are_apart (named_all sizes ns))) freed
+      ∙ regroup apart (are_free owners (named_by sizes n).places) (list_all (λ d. are_free owners d.places) (named_all sizes ns)) (list_all (λ d. list_all (λ p. not (names_place (named_by sizes n) p)) d.places) (named_all sizes ns)) (are_apart (named_all sizes ns))
+      ∙ s.apart_is;
   owned = λ p h.
-    ap (λ o. settled o (owner_from (length more) (named_all sizes ns) p)) (entry p h)
-    ∙ settle (slice_index owners p) (length domains) (owner_from (length more) (named_all sizes ns) p) (names_place (named_by sizes n) p)
-    ∙ ap (λ k. settled (slice_index owners p) (if names_place (named_by sizes n) p then suc (length domains) else owner_from k (named_all sizes ns) p)) count
-    ∙ s.owned p h;
+      ap (λ o. settled o (owner_from (length more) (named_all sizes ns) p)) (entry p h)
+      ∙ settle (slice_index owners p) (length domains) (owner_from (length more) (named_all sizes ns) p) (names_place (named_by sizes n) p)
+      ∙ ap (λ k. settled (slice_index owners p) (if names_place (named_by sizes n) p then suc (length domains) else owner_from k (named_all sizes ns) p)) count
+      ∙ s.owned p h;
 }
   where
     count : length more ≡ suc (length domains)

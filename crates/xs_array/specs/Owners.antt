@@ -57,4 +57,3 @@ pub record AreClaimed (before after : List ℕ) (named : ℕ → Bool) (k : ℕ)
 abbrev pub picked : List (Option (List Bounds)) → ℕ → Option (List Bounds)
 picked domains zero = None
 picked domains (suc k) = slice_index_or domains k None
-

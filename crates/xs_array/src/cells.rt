@@ -124,7 +124,11 @@ fn cells_of<'a>(decl: &'a Decl, sizes: &[i128]) -> Option<&'a [Option<Domain>]>
 }
 
 // So many cells with a domain, where there is one.
-fn one_for_all(alloc: Global, domain: Option<&Domain>, count: u64) -> Result<Option<Cells>, NoMemory>
+fn one_for_all(
+    alloc: Global,
+    domain: Option<&Domain>,
+    count: u64,
+) -> Result<Option<Cells>, NoMemory>
     ensures { IfOk result (λ cells. cells ≡ option_map (λ d. replicate count (Some d)) (option_map (λ d. d.now) domain.entry)) }
 {
     match domain {

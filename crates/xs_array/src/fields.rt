@@ -109,9 +109,7 @@ fn judge_content(
     let text = text_of(alloc, node)?;
     let pieces = node.pieces.as_slice();
     match like {
-        Some(_) => Ok(judge_spelling(
-            is_blank(text.as_slice()) && has_no_child(pieces),
-        )),
+        Some(_) => Ok(judge_spelling(is_blank(text.as_slice()) && has_no_child(pieces))),
         None => judge_domains(alloc, name, sizes, pieces, text.as_slice()),
     }
 }

@@ -155,7 +155,11 @@ pub fn copied_cell(alloc: Global, cell: &Option<Domain>) -> Result<Option<Domain
 }
 
 // The domain of the child of this number.
-fn picked(alloc: Global, domains: &[Option<Domain>], number: usize) -> Result<Option<Domain>, NoMemory>
+fn picked(
+    alloc: Global,
+    domains: &[Option<Domain>],
+    number: usize,
+) -> Result<Option<Domain>, NoMemory>
     requires { number ≤ length domains.now }
     ensures { IfOk result (λ cell. cell ≡ picked domains.now number) }
 {

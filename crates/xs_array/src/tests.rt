@@ -1,10 +1,16 @@
+ghost use Rattle.std.specs.Prelude.{◌≡◌, IfOk};
+ghost use Rattle.std.specs.List.{AllByRecursion};
+ghost use Rattle.xs_model.specs.Outline.{outlines_of};
+ghost use Rattle.xs_model.specs.Sound.{IsSoundDecl};
+ghost use Rattle.xs_var.specs.Taken.{IsSoundTaken};
+
 use crate::read_array;
 use std::alloc::Global;
 use std::test::Fail;
 use xf_markup::read_tree;
-use xf_num::{Domain, Row};
+use xf_num::Row;
 use xs_fields::Condition;
-use xs_model::{Decl, Decls, Names};
+use xs_model::{Decl, Names};
 use xs_var::Counted;
 
 // What the one element of a text is as an array behind these declarations.
@@ -13,7 +19,11 @@ fn read(
     text: &[u8],
     decls: &[Decl],
     names: &Names,
-) -> Result<Result<Counted, Condition>, Fail> {
+) -> Result<Result<Counted, Condition>, Fail>
+    requires names { names.now ≡ outlines_of decls.now }
+    requires decls { AllByRecursion IsSoundDecl decls.now }
+    ensures { IfOk result (λ r. IfOk r (λ c. IsSoundTaken (record { decls = decls.now; cells = 0; values = 0 }) c)) }
+{
     match read_tree(alloc, text) {
         Ok(node) => {
             let read = read_array(alloc, &node, decls, names, 0, 0)?;
@@ -23,19 +33,31 @@ fn read(
     }
 }
 
-// What it misses first.
-fn missed(
-    alloc: Global,
-    text: &[u8],
-    decls: &[Decl],
-    names: &Names,
-) -> Result<Option<Condition>, Fail> {
-    Ok(read(alloc, text, decls, names)?.err())
+// What it misses first where nothing is declared before it.
+fn missed(alloc: Global, text: &[u8]) -> Result<Option<Condition>, Fail> {
+    let names = Names::new(alloc);
+    Ok(read(alloc, text, &[], &names)?.err())
+}
+
+// What the second of two arrays is behind the first.
+fn second(alloc: Global, before: &[u8], text: &[u8]) -> Result<Result<Counted, Condition>, Fail> {
+    let mut names = Names::new(alloc);
+    let first = read(alloc, before, &[], &names)?;
+    match first {
+        Ok(counted) => {
+            let decl = counted.decl;
+            let added = names.declare(&decl);
+            match added {
+                Ok(()) => read(alloc, text, &[decl], &names),
+                Err(_) => Ok(Err(Condition::Nesting)),
+            }
+        }
+        Err(missed) => Ok(Err(missed)),
+    }
 }
 
 #[test]
 fn conditions_on_an_array(rt: HostRuntime) -> Result<(), Fail> {
-    let names = Names::new(rt.alloc());
     let cases: [(&[u8], Option<Condition>); 30] = [
         (b"<array id=\"x\" size=\"[2][2]\"> 0..3 </array>", None),
         (
@@ -58,7 +80,10 @@ fn conditions_on_an_array(rt: HostRuntime) -> Result<(), Fail> {
             b"<array id=\"x\" size=\"[2]\"><domain for=\"others\"> 0 <a/></domain></array>",
             Some(Condition::Known),
         ),
-        (b"<array size=\"[2]\"> 0 </array>", Some(Condition::Spelling)),
+        (
+            b"<array size=\"[2]\"> 0 </array>",
+            Some(Condition::Spelling),
+        ),
         (b"<array id=\"x\"> 0 </array>", Some(Condition::Spelling)),
         (
             b"<array id=\"x\" size=\" [2]\"> 0 </array>",
@@ -150,7 +175,7 @@ fn conditions_on_an_array(rt: HostRuntime) -> Result<(), Fail> {
         ),
     ];
     for (text, want) in cases {
-        assert_eq!(rt; missed(rt.alloc(), text, &[], &names)?, want);
+        assert_eq!(rt; missed(rt.alloc(), text)?, want);
     }
     Ok(())
 }
@@ -171,11 +196,8 @@ fn leasts(alloc: Global, decl: &Decl) -> Result<Row<i128>, Fail> {
 
 #[test]
 fn cells_of_arrays(rt: HostRuntime) -> Result<(), Fail> {
-    let alloc = rt.alloc();
-    let mut names = Names::new(alloc);
-    let mut decls: Decls = Row::new(alloc);
-    // Each stands behind those before it: its text, the least members of its cells, and the values that it counts.
-    let cases: [(&[u8], &[i128], u64); 7] = [
+    // A text, the least members of its cells, and the values that it counts.
+    let cases: [(&[u8], &[i128], u64); 4] = [
         (
             b"<array id=\"a\" size=\"[2][2]\"><domain for=\"a[0][]\"> 1 </domain></array>",
             &[1, 1, -1, -1],
@@ -186,65 +208,84 @@ fn cells_of_arrays(rt: HostRuntime) -> Result<(), Fail> {
             &[2, 1, 2, 2],
             6,
         ),
-        (b"<array id=\"c\" size=\"[4]\" as=\"b\"/>", &[2, 1, 2, 2], 6),
-        (b"<array id=\"d\" size=\"[2][2]\" as=\"a\"/>", &[1, 1, -1, -1], 0),
         (b"<array id=\"e\" size=\"[3]\"> 7 5 </array>", &[5, 5, 5], 6),
-        (b"<array id=\"f\" size=\"[2]\" as=\"e\"/>", &[5, 5], 4),
         (
             b"<array id=\"g\" size=\"[3][2]\"><domain for=\"g[1..2][0] g[0][1]\"> 9 </domain></array>",
             &[-1, 9, 9, -1, 9, -1],
             0,
         ),
     ];
+    let names = Names::new(rt.alloc());
     for (text, want, values) in cases {
-        match read(alloc, text, decls.as_slice(), &names)? {
-            Ok(counted) => {
-                let found = leasts(alloc, &counted.decl)?;
-                assert!(rt; found.as_slice() == want);
-                assert_eq!(rt; counted.cells, want.len() as u64);
-                assert_eq!(rt; counted.values, values);
-                assert!(rt; names.declare(&counted.decl).is_ok());
-                decls.push(counted.decl)?;
-            }
-            Err(_) => assert!(rt; false),
-        }
-    }
-    let refused: [(&[u8], Condition); 3] = [
-        (b"<array id=\"h\" size=\"[2]\" as=\"b\"/>", Condition::Fitting),
-        (b"<array id=\"h\" size=\"[4]\" as=\"a\"/>", Condition::Fitting),
-        (b"<array id=\"a\" size=\"[4]\"> 0 </array>", Condition::Naming),
-    ];
-    for (text, want) in refused {
-        assert_eq!(rt; missed(alloc, text, decls.as_slice(), &names)?, Some(want));
+        let found = read(rt.alloc(), text, &[], &names)?;
+        assert!(rt; is_array(rt.alloc(), found, want, values)?);
     }
     Ok(())
 }
 
-#[test]
-fn cells_by_a_variable(rt: HostRuntime) -> Result<(), Fail> {
-    let alloc = rt.alloc();
-    let mut name = Row::new(alloc);
-    name.push(b'v')?;
-    let mut pieces = Row::new(alloc);
-    if let Some(piece) = xf_num::Span::new(3, 4) {
-        pieces.push(piece)?;
-    }
-    match Domain::from_pieces(alloc, pieces.as_slice()) {
-        Ok(domain) => {
-            let decl = Decl::One { name, domain };
-            let mut names = Names::new(alloc);
-            assert!(rt; names.declare(&decl).is_ok());
-            let decls = [decl];
-            let text: &[u8] = b"<array id=\"x\" size=\"[2]\" as=\"v\"/>";
-            match read(alloc, text, &decls, &names)? {
-                Ok(counted) => {
-                    let found = leasts(alloc, &counted.decl)?;
-                    assert!(rt; found.as_slice() == [3, 3].as_slice());
-                }
-                Err(_) => assert!(rt; false),
-            }
+// Whether an array has cells with these least members, and counts so many values.
+fn is_array(
+    alloc: Global,
+    found: Result<Counted, Condition>,
+    want: &[i128],
+    values: u64,
+) -> Result<bool, Fail> {
+    match found {
+        Ok(counted) => {
+            let members = leasts(alloc, &counted.decl)?;
+            Ok(
+                members.as_slice() == want
+                    && counted.cells == want.len() as u64
+                    && counted.values == values,
+            )
         }
-        Err(_) => assert!(rt; false),
+        Err(_) => Ok(false),
+    }
+}
+
+#[test]
+fn cells_by_an_array(rt: HostRuntime) -> Result<(), Fail> {
+    let some: &[u8] =
+        b"<array id=\"a\" size=\"[2][2]\"><domain for=\"a[0][]\"> 1 </domain></array>";
+    let full: &[u8] = b"<array id=\"a\" size=\"[3]\"> 7 5 </array>";
+    let cases: [(&[u8], &[u8], &[i128], u64); 3] = [
+        (
+            some,
+            b"<array id=\"x\" size=\"[2][2]\" as=\"a\"/>",
+            &[1, 1, -1, -1],
+            0,
+        ),
+        (
+            full,
+            b"<array id=\"x\" size=\"[3]\" as=\"a\"/>",
+            &[5, 5, 5],
+            6,
+        ),
+        (full, b"<array id=\"x\" size=\"[2]\" as=\"a\"/>", &[5, 5], 4),
+    ];
+    for (before, text, want, values) in cases {
+        let found = second(rt.alloc(), before, text)?;
+        assert!(rt; is_array(rt.alloc(), found, want, values)?);
+    }
+    let refused: [(&[u8], &[u8], Condition); 3] = [
+        (
+            some,
+            b"<array id=\"x\" size=\"[4]\" as=\"a\"/>",
+            Condition::Fitting,
+        ),
+        (
+            some,
+            b"<array id=\"x\" size=\"[2]\" as=\"a\"/>",
+            Condition::Fitting,
+        ),
+        (
+            full,
+            b"<array id=\"a\" size=\"[4]\"> 0 </array>",
+            Condition::Naming,
+        ),
+    ];
+    for (before, text, want) in refused {
+        assert_eq!(rt; second(rt.alloc(), before, text)?.err(), Some(want));
     }
     Ok(())
 }

@@ -10,7 +10,6 @@ ghost use Rattle.xs_array.specs.Reading.{with_content};
 ghost use Rattle.xs_var.specs.Elements.{text_or_none, value_in};
 ghost use Rattle.xs_var.specs.Variable.{names_meet};
 ghost use Rattle.xs_array.specs.Cells.{stated_sizes};
-
 ghost use Rattle.xs_var.specs.Taken.{IsSoundTaken, IsTaken};
 
 use crate::cells::{

@@ -36,8 +36,8 @@ returns-clause-full c =
     let all = children_of c.args.pieces.now in
     let defined : c.are_defined.result ≡ list_all is_some (map child_domain all) = c.are_defined.ensures ∙ ap (λ (xs : List (Option (List Bounds))). list_all is_some xs) (c.as_slice-domains.ensures ∙ c.in_ok-children.ensures.domains) in
     let joined : c.if-are_defined.result ≡ (c.are_defined.result && c.in_ok-children.children.apart) = elim c.if-are_defined.branch [
-      then-are_defined w ↦ w.result-is ∙ ap (λ (v : Bool). v && c.in_ok-children.children.apart) (sym w.if-are_defined.true)
-    | else-are_defined w ↦ w.result-is ∙ w.if-are_defined.false ∙ ap (λ (v : Bool). v && c.in_ok-children.children.apart) (sym w.if-are_defined.false)
+      | then-are_defined w ↦ w.result-is ∙ ap (λ (v : Bool). v && c.in_ok-children.children.apart) (sym w.if-are_defined.true)
+      | else-are_defined w ↦ w.result-is ∙ w.if-are_defined.false ∙ ap (λ (v : Bool). v && c.in_ok-children.children.apart) (sym w.if-are_defined.false)
     ] in
     joined
     ∙ ap (λ (v : Bool). v && c.in_ok-children.children.apart) (defined ∙ defined_are c.args.sizes.now all)

@@ -35,17 +35,17 @@ loop-piece-preserved c =
     let more = children_of (drop (i + 1) ps) in
     let next = children_next ps i c.piece-item.result c.loop-piece-test.true c.piece-item.is in
     elim c.match-piece.branch [
-      in-Inner+in_ok-domain-in-Inner+in_ok-push-in-Inner+in_ok-free-in-Inner w ↦
-        let cut = next ∙ ap (λ p. piece_nodes p ++ more) w.in-Inner.is ∙ ap (λ (ds : List Node). ds ++ more) (inner_nodes w.in-Inner.node) in
-        claiming_as sizes m.domains w.push.new.self m.apart (l.apart && w.in_ok-free-in-Inner.free) m.owners w.claim_child.new.owners more all w.domains-is (w.apart-is ∙ w.both-apart.ensures) w.owners-is
-        (claiming_next sizes l.domains w.push.new.self l.apart w.in_ok-free-in-Inner.free l.owners w.claim_child.new.owners w.in-Inner.node more all w.len.result c.requires.sizes
-        (w.in_ok-push-in-Inner.ensures.ok ∙ ap (λ (d : Option (List Bounds)). l.domains ++ d ∷ []) w.in_ok-domain-in-Inner.ensures)
-        w.len.ensures w.in_ok-free-in-Inner.ensures.free w.in_ok-free-in-Inner.ensures.claimed
-        (claiming_cons sizes l.domains l.apart l.owners (children_of (drop i ps)) (w.in-Inner.node ∷ more) all cut l.invariant))
-    | in-Words w ↦
-        let cut = next ∙ ap (λ p. piece_nodes p ++ more) w.in-Words.is ∙ ap (λ (ds : List Node). ds ++ more) (words_nodes w.in-Words.field-0) in
-        claiming_as sizes m.domains l.domains m.apart l.apart m.owners l.owners more all w.domains-is w.apart-is w.owners-is
-        (claiming_cons sizes l.domains l.apart l.owners (children_of (drop i ps)) more all cut l.invariant)
+      | in-Inner+in_ok-domain-in-Inner+in_ok-push-in-Inner+in_ok-free-in-Inner w ↦
+          let cut = next ∙ ap (λ p. piece_nodes p ++ more) w.in-Inner.is ∙ ap (λ (ds : List Node). ds ++ more) (inner_nodes w.in-Inner.node) in
+          claiming_as sizes m.domains w.push.new.self m.apart (l.apart && w.in_ok-free-in-Inner.free) m.owners w.claim_child.new.owners more all w.domains-is (w.apart-is ∙ w.both-apart.ensures) w.owners-is
+          (claiming_next sizes l.domains w.push.new.self l.apart w.in_ok-free-in-Inner.free l.owners w.claim_child.new.owners w.in-Inner.node more all w.len.result c.requires.sizes
+          (w.in_ok-push-in-Inner.ensures.ok ∙ ap (λ (d : Option (List Bounds)). l.domains ++ d ∷ []) w.in_ok-domain-in-Inner.ensures)
+          w.len.ensures w.in_ok-free-in-Inner.ensures.free w.in_ok-free-in-Inner.ensures.claimed
+          (claiming_cons sizes l.domains l.apart l.owners (children_of (drop i ps)) (w.in-Inner.node ∷ more) all cut l.invariant))
+      | in-Words w ↦
+          let cut = next ∙ ap (λ p. piece_nodes p ++ more) w.in-Words.is ∙ ap (λ (ds : List Node). ds ++ more) (words_nodes w.in-Words.field-0) in
+          claiming_as sizes m.domains l.domains m.apart l.apart m.owners l.owners more all w.domains-is w.apart-is w.owners-is
+          (claiming_cons sizes l.domains l.apart l.owners (children_of (drop i ps)) more all cut l.invariant)
     ]
 
 pub returns-clause-owners : goal.returns-clause-owners
