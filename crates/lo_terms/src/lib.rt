@@ -12,6 +12,8 @@ mod node;
 mod numbers;
 mod stated;
 mod term;
+#[cfg(test)]
+mod tests;
 mod truths;
 
 pub use lower::lower_intension;

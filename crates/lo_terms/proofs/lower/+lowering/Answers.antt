@@ -97,6 +97,6 @@ lower_operands-loop-place-preserved g t c =
     record {
       due = g.met.E.Emit.goes_on _ _ _ _ _ _ _ c.loop-place.invariant.due c.in_ok-more.ensures.ok more;
       told = told-more c.args.spans.now c.args.op c.args.mode c.operand_mode.result n _ c.args.items.now c.loop-place.place c.index-items-place.result c.loop-place.operands _ _ _
-      (omega arith) c.index-items-place.is c.operand_mode.ensures c.in_ok-more.ensures.count pushed (c.as_slice.ensures ∙ c.in_ok-more.ensures.value) c.loop-place.invariant.told;
+          (omega arith) c.index-items-place.is c.operand_mode.ensures c.in_ok-more.ensures.count pushed (c.as_slice.ensures ∙ c.in_ok-more.ensures.value) c.loop-place.invariant.told;
       room = omega arith;
     }
