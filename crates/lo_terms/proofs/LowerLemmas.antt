@@ -1,5 +1,5 @@
 -- What an expression is lowered to, by cases.
-use Rattle.std.proofs.Common.{◌≡◌, ℕ, suc, ◌+◌, ◌*◌, ◌≤◌, ◌<◌, ℤ, Bool, List, [], ◌∷◌, ◌++◌, length, drop, get_or, map, refl, ap, sym, subst, ◌∙◌, arith}
+use Rattle.std.proofs.Common.{◌≡◌, ℕ, ◌+◌, ◌<◌, ℤ, Bool, List, [], ◌∷◌, ◌++◌, length, drop, get_or, map, refl, ap, sym, subst, ◌∙◌}
 use Rattle.std.proofs.lemmas.List.{drop_more, append_assoc, append-nil}
 use Rattle.std.specs.Prelude.{Result, Ok, Err, OnOk, OnErr}
 use Rattle.lo_base.specs.Emit.{Begins}
@@ -7,7 +7,7 @@ use Rattle.lo_base.specs.Item.{Item, made}
 use Rattle.lo_terms.specs.declared.term.Mode.{Mode}
 use Rattle.lo_terms.specs.declared.term.Operand.{Operand}
 use Rattle.lo_terms.specs.Rules.{literal, variable, operand_mode}
-use Rattle.lo_terms.specs.Lowering.{Low, Lowering, lowering, lowering_step, low_expr, low_operands, in_turn, single, own_low, finished, node_low, selves, lows, span_of, has_written, nodes, nodes_step, nodes_of}
+use Rattle.lo_terms.specs.Lowering.{Low, Lowering, lowering, lowering_step, low_expr, low_operands, single, own_low, finished, node_low, selves, lows, span_of, has_written, nodes, nodes_step, nodes_of}
 use Rattle.xf_num.specs.Span.{Bounds}
 use Rattle.xs_model.specs.declared.expr.Op.{Op}
 use Rattle.xs_model.specs.declared.expr.Expr.{Expr, Int, Var, Node, roll-Expr, map-Expr, ind-Expr, fold-roll-Expr}

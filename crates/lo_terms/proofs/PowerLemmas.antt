@@ -1,5 +1,5 @@
 -- The steps of a power.
-use Rattle.std.proofs.Common.{◌≡◌, ℕ, zero, suc, ◌+◌, ◌-◌, ◌<◌, ◌++◌, refl, ap, sym, ◌∙◌, arith}
+use Rattle.std.proofs.Common.{◌≡◌, ℕ, zero, suc, ◌+◌, ◌-◌, ◌<◌, ◌++◌, ap, sym, ◌∙◌, arith}
 use Rattle.fz_model.specs.declared.builtin.Builtin.TheVariants.{IntTimes}
 use Rattle.lo_terms.specs.Emitted.{Out, kept, integer_of_two}
 use Rattle.lo_terms.specs.Rules.{powers, next_power}

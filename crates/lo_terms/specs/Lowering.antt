@@ -16,7 +16,6 @@ use Rattle.xf_num.specs.Span.{Bounds}
 use Rattle.xs_expr.specs.Bounds.{bounds}
 use Rattle.xs_expr.specs.Shape.{is_set_operator}
 use Rattle.xs_model.specs.declared.expr.Op.{Op}
-use Rattle.xs_model.specs.declared.expr.Op.TheVariants.{Set}
 use Rattle.xs_model.specs.declared.expr.Expr.{Expr, Int as int_expr, Var as var_expr, Node as node_expr, out-Expr, fold-Expr}
 use Rattle.xs_model.specs.declared.expr.Expr.TheOpen.{Expr-F}
 

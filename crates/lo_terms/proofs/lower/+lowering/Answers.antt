@@ -1,10 +1,10 @@
-use Rattle.std.proofs.Common.{◌≡◌, ℕ, ◌+◌, ◌*◌, ◌≤◌, ◌<◌, ◌++◌, List, [], length, drop, IfOk, ap, sym, subst, refl, ◌∙◌, arith, rules}
+use Rattle.std.proofs.Common.{◌≡◌, ◌+◌, ◌++◌, List, [], length, IfOk, ap, sym, subst, refl, ◌∙◌, arith, rules}
 use Rattle.std.proofs.lemmas.List.{length-append}
 use Rattle.lo_base.proofs.Solving.{made-append}
 use Rattle.lo_base.specs.Item.{made}
 use Rattle.lo_base.specs.Partway.{on_err}
 use Rattle.lo_terms.specs.declared.term.Operand.{Operand}
-use Rattle.lo_terms.specs.Lowering.{low_expr, low_operands, own_low, has_written, nodes, nodes_of}
+use Rattle.lo_terms.specs.Lowering.{low_expr, low_operands, own_low, has_written, nodes_of}
 use Rattle.lo_terms.proofs.LowerLemmas.{node-items, node-operands, node-front, due-more, told-more, nodes-node, nodes-more, begins-same, on_ok, on_error}
 use Rattle.xs_expr.proofs.Every.{every-operands}
 use Rattle.xs_expr.specs.Bounds.{HasSpan}

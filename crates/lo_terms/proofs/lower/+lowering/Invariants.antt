@@ -1,4 +1,4 @@
-use Rattle.std.proofs.Common.{◌≡◌, ◌≤◌, ◌+◌, ◌*◌, ◌^◌, ◌++◌, drop, length}
+use Rattle.std.proofs.Common.{◌≡◌, ◌≤◌, ◌+◌, ◌*◌, ◌++◌, drop, length}
 use Rattle.lo_base.specs.Partway.{Partway}
 use Rattle.lo_terms.specs.Lowering.{low_operands, nodes_of}
 use Rattle.lo_terms.proofs.lower.+lowering.Given as goal

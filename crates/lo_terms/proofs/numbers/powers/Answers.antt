@@ -1,4 +1,4 @@
-use Rattle.std.proofs.Common.{◌≡◌, ◌+◌, ◌-◌, arith, refl, ◌∙◌}
+use Rattle.std.proofs.Common.{arith, refl, ◌∙◌}
 use Rattle.lo_base.specs.Partway.{on_err}
 use Rattle.lo_terms.proofs.PowerLemmas.{powers-items, powers-term}
 use Rattle.lo_terms.proofs.numbers.powers.Goals as goal

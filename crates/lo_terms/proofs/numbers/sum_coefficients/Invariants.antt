@@ -1,4 +1,4 @@
-use Rattle.std.proofs.Common.{◌≡◌, ◌+◌, ◌≤◌, ◌++◌, map, pos, drop}
+use Rattle.std.proofs.Common.{◌≡◌, ◌++◌, map, pos, drop}
 use Rattle.lo_terms.proofs.numbers.sum_coefficients.Given as goal
 
 abbrev pub invariant-loop-operand : goal.invariant-loop-operand

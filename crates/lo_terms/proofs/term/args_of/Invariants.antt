@@ -1,4 +1,4 @@
-use Rattle.std.proofs.Common.{◌≡◌, ◌+◌, ◌≤◌, ◌++◌, map, drop}
+use Rattle.std.proofs.Common.{◌≡◌, ◌++◌, map, drop}
 use Rattle.lo_terms.specs.Emitted.{arg_of}
 use Rattle.lo_terms.proofs.term.args_of.Given as goal
 

@@ -1,4 +1,4 @@
-use Rattle.std.proofs.Common.{◌≡◌, ◌+◌, ◌≤◌, ◌++◌, map, drop}
+use Rattle.std.proofs.Common.{◌≡◌, ◌++◌, map, drop}
 use Rattle.fz_model.specs.declared.model.Arg.TheVariants as arg
 use Rattle.lo_terms.proofs.term.integers_of.Given as goal
 

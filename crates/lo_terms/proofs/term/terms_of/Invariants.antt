@@ -1,4 +1,4 @@
-use Rattle.std.proofs.Common.{◌≡◌, ◌+◌, ◌≤◌, ◌++◌, map, drop}
+use Rattle.std.proofs.Common.{◌≡◌, ◌++◌, drop}
 use Rattle.lo_terms.specs.Rules.{terms_of}
 use Rattle.lo_terms.proofs.term.terms_of.Given as goal
 

@@ -1,4 +1,4 @@
-use Rattle.std.proofs.Common.{◌≡◌, ◌+◌, ◌≤◌, ◌++◌, map, drop}
+use Rattle.std.proofs.Common.{◌≡◌, ◌+◌, ◌++◌, drop}
 use Rattle.lo_base.specs.Partway.{Partway}
 use Rattle.lo_terms.specs.Rules.{equalities}
 use Rattle.lo_terms.proofs.truths.equalities.Given as goal

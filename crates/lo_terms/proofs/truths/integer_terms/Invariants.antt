@@ -1,4 +1,4 @@
-use Rattle.std.proofs.Common.{◌≡◌, ◌+◌, ◌≤◌, ◌++◌, map, drop}
+use Rattle.std.proofs.Common.{◌≡◌, ◌++◌, map, drop}
 use Rattle.lo_terms.specs.Rules.{integer_term}
 use Rattle.lo_terms.proofs.truths.integer_terms.Given as goal
 
