@@ -1,0 +1,19 @@
+//! Expressions lowered to items: new variables, and calls that define them or state the expression.
+//!
+//! It stands on `xf_num`, `xs_model`, `xs_expr`, `fz_model` and `lo_base`. `lower_intension` appends what states an
+//! expression (`specs/Lowering.antt`) to any `Emit`; what each operator is lowered to stands in `specs/Rules.antt`.
+//! It says exactly which items are appended. It does not say yet that they mean what the expression says, that
+//! their new variables follow from those before, or how many they are.
+#![tactic(auto)]
+
+mod define;
+mod lower;
+mod node;
+mod numbers;
+mod stated;
+mod term;
+#[cfg(test)]
+mod tests;
+mod truths;
+
+pub use lower::lower_intension;
