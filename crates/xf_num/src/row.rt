@@ -4,6 +4,9 @@ use crate::memory::NoMemory;
 use std::alloc::Global;
 use std::marker::Model;
 
+/// Rows up to this length take no more room than their items.
+const SHORT: usize = 4;
+
 /// A list that contracts see as the list of its items.
 #[derive(Debug, Drop)]
 pub struct Row<T> {
@@ -56,13 +59,13 @@ impl<T> Row<T> {
 }
 
 impl<T: Drop> Row<T> {
-    /// Appends the item, or drops it and changes nothing. Room for the first is made for it alone, since many rows
-    /// stay that short.
+    /// Appends the item, or drops it and changes nothing. Room for the first few is made for each alone, since many
+    /// rows stay that short.
     pub fn push(&mut self, item: T) -> Result<(), NoMemory>
         ensures ok { OnOk result (self.new ≡ self.old ++ item ∷ []) }
         ensures err { OnErr result (self.new ≡ self.old) }
     {
-        if self.items.is_empty() {
+        if self.items.len() < SHORT {
             self.items.reserve_exact(1)?;
         }
         self.items.push(item)?;
