@@ -1,5 +1,5 @@
 -- The domain of a text is sound: ascending ranges, no two of which touch, with small ends.
-use Rattle.std.proofs.Common.{◌≡◌, ℕ, ◌≤◌, refl, sym, ap, subst, ◌∙◌, Bool, true, false, ◌&&◌, if◌then◌else◌, nat_abs, nat_le, List, [], ◌∷◌, ℤ, pos, ◌+ℤ◌, ◌≤ℤ◌, ◌<ℤ◌, Option, None, Some, Result, Ok, Err, arith, rules}
+use Rattle.std.proofs.Common.{◌≡◌, ℕ, ◌≤◌, refl, sym, subst, Bool, true, false, if◌then◌else◌, nat_abs, List, [], ◌∷◌, ℤ, pos, ◌+ℤ◌, ◌≤ℤ◌, ◌<ℤ◌, Option, None, Some, Ok, Err, arith, rules}
 use Rattle.std.specs.Prelude.{int_le, int_lt}
 use Rattle.std.specs.Int.{int_min, int_max}
 use Rattle.std.specs.List.{AllByRecursion, flat_map}
@@ -13,7 +13,7 @@ use Rattle.xs_fields.specs.Integers.{integer_of, is_small}
 use Rattle.xs_fields.specs.Lists.{has_small_ends, piece_in, piece_list, piece_of, pieces_in, pieces_meet, pieces_of, point, range_of}
 use Rattle.xs_fields.specs.Words.{is_byte, parts, words_of}
 use Rattle.xs_fields.specs.declared.condition.Condition.{Condition}
-use Rattle.xs_fields.specs.declared.condition.Condition.TheVariants.{Spelling, Magnitude}
+use Rattle.xs_fields.specs.declared.condition.Condition.TheVariants.{Magnitude}
 use Rattle.xs_fields.proofs.IntegerLemmas.{and_left, and_right}
 use Rattle.xs_model.specs.Sound.{HasSmallEnds, IsSmall, IsSoundDomain, magnitudes}
 use Rattle.xs_var.proofs.MergedLemmas.{Ranges}

@@ -2,12 +2,12 @@
 use Rattle.std.proofs.Common.{◌≡◌, ℕ, Bool, true, false, not, ◌&&◌, ◌||◌, cond, List, [], ◌∷◌, ◌++◌, ℤ, Option, None, Some, drop, length, ◌<◌, ◌+◌, codes, is_some, refl, ap, sym, ◌∙◌, arith, drop-cons, get_or, suc, nat_eq, bytes_eq}
 use Rattle.std.proofs.lemmas.Bool.{false≢true}
 use Rattle.std.proofs.lemmas.Bool.Decides.{nat_tests}
-use Rattle.std.specs.List.{AllByRecursion, find, flat_map, list_all}
+use Rattle.std.specs.List.{AllByRecursion, find, list_all}
 use Rattle.xf_markup.specs.declared.tree.Node.{Node}
 use Rattle.xf_markup.specs.declared.tree.Piece.{Piece, Piece-F, out-Piece}
-use Rattle.xs_fields.specs.Conditions.{all_meet, earlier_of, first_missed, in_order, meets}
+use Rattle.xs_fields.specs.Conditions.{earlier_of, first_missed, in_order, meets}
 use Rattle.xs_fields.specs.Lists.{piece_meets, pieces_meet}
-use Rattle.xs_fields.specs.Sizes.{brackets_of, front_meets, size_meets as part_meets, sizes_meet, sizes_of}
+use Rattle.xs_fields.specs.Sizes.{brackets_of, front_meets, size_meets as part_meets, sizes_of}
 use Rattle.xs_fields.specs.Variables.{bracket_meets, word_meets, word_of}
 use Rattle.xs_fields.specs.Cells.{are_inside}
 use Rattle.xs_fields.specs.Words.{is_byte, parts, words_of}

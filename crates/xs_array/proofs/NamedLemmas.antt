@@ -1,12 +1,11 @@
 -- The cells by the text, and by `domain` children.
-use Rattle.std.proofs.Common.{◌≡◌, ℕ, Bool, true, false, ◌&&◌, List, [], ◌∷◌, map, replicate, ℤ, Option, is_some, Result, Ok, Err, IfOk, refl, ap, sym, ◌∙◌}
+use Rattle.std.proofs.Common.{◌≡◌, ℕ, Bool, true, false, ◌&&◌, List, [], ◌∷◌, map, replicate, ℤ, is_some, refl, ap, sym, ◌∙◌}
 use Rattle.std.specs.List.{list_all, range_with_len}
 use Rattle.xf_markup.specs.declared.tree.Node.{Node}
-use Rattle.xf_num.specs.Span.{Bounds}
 use Rattle.xs_model.specs.Sound.{cell_count}
 use Rattle.xs_var.specs.VarDomain.{text_domain}
 use Rattle.xs_array.specs.Cells.{are_full, cells_named}
-use Rattle.xs_array.specs.DomainChild.{Named, are_apart, cell_at, named_by}
+use Rattle.xs_array.specs.DomainChild.{are_apart, cell_at, named_by}
 
 pub text_cells : (sizes : List ℤ) (ns : List Node) (text : List ℕ) → ns ≡ [] → replicate (cell_count sizes) (text_domain text) ≡ cells_named sizes (map (named_by sizes) ns) text
 text_cells sizes ns text e = ap (λ (ms : List Node). cells_named sizes (map (named_by sizes) ms) text) (sym e)

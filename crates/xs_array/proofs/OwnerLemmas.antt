@@ -1,12 +1,11 @@
 -- The table of the children that name each cell first, child after child.
-use Rattle.std.proofs.Common.{◌≡◌, ℕ, zero, suc, ◌+◌, ◌-◌, ◌*◌, ◌<◌, ◌≤◌, Bool, true, false, not, ◌&&◌, ◌||◌, nat_eq, List, [], ◌∷◌, ◌++◌, length, map, take, replicate, get_or, slice_index, ℤ, pos, negsuc, ◌≤ℤ◌, Option, None, Some, is_some, refl, ap, sym, subst, ◌∙◌, arith, rules, append_assoc, append-nil, length-append, if◌then◌else◌}
-use Rattle.std.specs.List.{AllByRecursion, flat_map, list_all, list_any, range_with_len}
-use Rattle.std.proofs.lemmas.Int.{ints}
+use Rattle.std.proofs.Common.{◌≡◌, ℕ, zero, suc, ◌+◌, ◌*◌, ◌<◌, ◌≤◌, Bool, true, false, not, ◌&&◌, nat_eq, List, [], ◌∷◌, ◌++◌, length, map, take, replicate, get_or, slice_index, ℤ, pos, ◌≤ℤ◌, Option, None, is_some, refl, ap, sym, subst, ◌∙◌, arith, rules, append_assoc, append-nil, length-append, if◌then◌else◌}
+use Rattle.std.specs.List.{AllByRecursion, flat_map, list_all, range_with_len}
 use Rattle.std.proofs.lemmas.List.FromFn.{fill_by_all, length-map-range_with_len}
-use Rattle.std.proofs.Math.Nat.{mul-le-mul_left, mul-le-mul_right, mul_assoc}
+use Rattle.std.proofs.Math.Nat.{mul-le-mul_right, mul_assoc}
 use Rattle.xf_markup.specs.declared.tree.Node.{Node}
 use Rattle.xf_num.specs.Span.{Bounds}
-use Rattle.xs_fields.specs.Cells.{are_inside, covered, covered_places, first_index, index_count, indices, is_inside, place_from}
+use Rattle.xs_fields.specs.Cells.{are_inside, covered, first_index, index_count, indices, is_inside, place_from}
 use Rattle.xs_fields.specs.Variables.{word_of}
 use Rattle.xs_fields.specs.Words.{words_of}
 use Rattle.xs_fields.specs.declared.variable.Bracket.{Bracket}
@@ -14,9 +13,9 @@ use Rattle.xs_fields.specs.declared.variable.Bracket.TheVariants.{At, Between, E
 use Rattle.xs_fields.proofs.IntegerLemmas.{and_left, and_right}
 use Rattle.xs_model.specs.Names.{places_of}
 use Rattle.xs_model.specs.Sound.{IsSize, cell_count}
-use Rattle.xs_array.specs.DomainChild.{Named, are_apart, cell_at, is_others, named_by, names_place, places_in, word_places}
-use Rattle.xs_array.specs.Owners.{AreCells, AreClaimed, HasCells, IsCellWord, are_free, child_domain, claimed, for_text, is_free, owner_from, picked}
-use Rattle.xs_array.proofs.FieldLemmas.{all_same, all_true}
+use Rattle.xs_array.specs.DomainChild.{Named, are_apart, cell_at, is_others, named_by, names_place, word_places}
+use Rattle.xs_array.specs.Owners.{AreClaimed, HasCells, IsCellWord, are_free, child_domain, claimed, for_text, is_free, owner_from, picked}
+use Rattle.xs_array.proofs.FieldLemmas.{all_true}
 
 -- what holds of each of a list that is made from another
 pub all_map : {A B : Type 0} (P : B → Type 0) (f : A → B) (xs : List A) → AllByRecursion (λ x. P (f x)) xs → AllByRecursion P (map f xs)

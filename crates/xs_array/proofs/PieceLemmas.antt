@@ -1,7 +1,6 @@
 -- The children that one piece holds.
 use Rattle.std.proofs.Common.{◌≡◌, List, [], ◌∷◌, ℕ, rules}
 use Rattle.xf_markup.specs.declared.tree.Node.{Node, the_lemmas}
-use Rattle.xf_markup.specs.declared.tree.Piece.{Piece}
 use Rattle.xf_markup.specs.declared.tree.Piece.TheVariants.{Words, Inner}
 use Rattle.xs_var.specs.Elements.{piece_nodes}
 

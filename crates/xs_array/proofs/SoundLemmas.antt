@@ -7,9 +7,9 @@ use Rattle.std.proofs.lemmas.List.FromFn.{length-map-range_with_len}
 use borrow.Author.Tests.{leb-true}
 use Rattle.xf_markup.specs.declared.tree.Node.{Node}
 use Rattle.xf_num.specs.Span.{Bounds}
-use Rattle.xs_fields.specs.Conditions.{first_missed, judged, meets}
+use Rattle.xs_fields.specs.Conditions.{judged, meets}
 use Rattle.xs_fields.specs.Integers.{is_small}
-use Rattle.xs_fields.specs.Sizes.{brackets_of, front_meets, size_list, size_meets as part_meets, size_of, sizes_meet, sizes_of, value_list}
+use Rattle.xs_fields.specs.Sizes.{brackets_of, front_meets, size_list, size_meets as part_meets, size_of, sizes_of, value_list}
 use Rattle.xs_fields.specs.Words.{is_byte, parts}
 use Rattle.xs_fields.specs.declared.condition.Condition.{Condition}
 use Rattle.xs_fields.specs.declared.condition.Condition.TheVariants.{Spelling, Magnitude, Naming, Counting, Fitting}
@@ -18,17 +18,17 @@ use Rattle.xs_model.specs.Identifier.{IsIdentifier, is_letter, is_word}
 use Rattle.xs_model.specs.declared.decl.Decl.{Decl}
 use Rattle.xs_model.specs.declared.decl.Decl.TheVariants.{One, Array}
 use Rattle.xs_model.specs.Names.{defined}
-use Rattle.xs_model.specs.Sound.{IsSize, IsSoundDecl, IsSoundDomain, cell_count, most_cells, most_items, names_of, values_of}
+use Rattle.xs_model.specs.Sound.{IsSoundDecl, IsSoundDomain, cell_count, most_cells, most_items, names_of, values_of}
 use Rattle.xs_var.specs.declared.counted.Counted.{Counted}
 use Rattle.xs_var.specs.Elements.{children_of, is_one_of, text_in, text_or_none, value_in}
-use Rattle.xs_var.specs.Like.{declaration, has_domain, one_domain, single_domain}
+use Rattle.xs_var.specs.Like.{declaration, has_domain, one_domain}
 use Rattle.xs_var.specs.Taken.{IsSoundTaken}
 use Rattle.xs_var.specs.VarDomain.{text_domain, values_in}
 use Rattle.xs_var.specs.VarUnit.{Declared}
 use Rattle.xs_var.specs.Variable.{id_meets, is_earlier, is_new, names_meet}
 use Rattle.xs_array.specs.ArrayUnit.{size_meets}
-use Rattle.xs_array.specs.Cells.{are_positive, array_cells, cells_by, cells_from, cells_like, cells_named, is_content_full, is_same_list, named_in, one_for_all, stated_sizes}
-use Rattle.xs_array.specs.DomainChild.{Named, cell_at, named_by, names_place}
+use Rattle.xs_array.specs.Cells.{are_positive, array_cells, cells_by, cells_from, cells_like, cells_named, is_content_full, is_same_list, one_for_all, stated_sizes}
+use Rattle.xs_array.specs.DomainChild.{cell_at, named_by, names_place}
 use Rattle.xs_array.specs.Reading.{with_content}
 use Rattle.xs_array.proofs.CountLemmas.{are_sizes}
 use Rattle.xs_array.proofs.DomainLemmas.{IsSoundCell, text_sound}

@@ -1,12 +1,12 @@
 -- An array whose element and names miss nothing: its counts, its cells, and what it declares.
-use Rattle.std.proofs.Common.{◌≡◌, ℕ, ◌+◌, ◌≤◌, ◌≤ℤ◌, Bool, true, false, not, ◌&&◌, ◌||◌, nat_le, List, [], ◌∷◌, ◌++◌, length, map, sum, replicate, ℤ, Option, None, Some, is_some, Result, Ok, Err, IfOk, codes, cond, refl, ap, sym, subst, ◌∙◌, arith, rules, if◌then◌else◌, bytes_eq}
+use Rattle.std.proofs.Common.{◌≡◌, ℕ, ◌+◌, ◌≤◌, ◌≤ℤ◌, Bool, true, false, not, ◌&&◌, nat_le, List, [], ◌∷◌, map, sum, replicate, ℤ, Option, None, Some, is_some, Result, Ok, Err, IfOk, codes, cond, refl, ap, sym, subst, ◌∙◌, arith, rules, if◌then◌else◌, bytes_eq}
 use Rattle.std.specs.Prelude.{int_le, pos}
 use Rattle.std.specs.Ordering.{int_eq}
-use Rattle.std.specs.List.{AllByRecursion, find, list_all, list_any, range_with_len}
+use Rattle.std.specs.List.{AllByRecursion, list_any, range_with_len}
 use Rattle.std.proofs.lemmas.Bool.{false≢true}
 use Rattle.std.proofs.lemmas.Bool.Decides.{Decides-int_eq}
 use Rattle.std.proofs.lemmas.Int.{ints}
-use borrow.Author.Tests.{leb-true, leb-false, le-leb, ltb-true}
+use borrow.Author.Tests.{leb-true, le-leb}
 use Rattle.xf_markup.specs.declared.tree.Node.{Node}
 use Rattle.xf_num.specs.Span.{Bounds}
 use Rattle.xs_fields.specs.Conditions.{earlier_of, first_missed, rank}
@@ -18,7 +18,7 @@ use Rattle.xs_model.specs.declared.decl.Decl.{Decl}
 use Rattle.xs_model.specs.declared.decl.Decl.TheVariants.{One, Array}
 use Rattle.xs_model.specs.Sound.{IsSize, IsSoundDecl, cell_count, most_cells, most_items, name_of, names_of}
 use Rattle.xs_var.specs.declared.counted.Counted.{Counted}
-use Rattle.xs_var.specs.Elements.{children_of, text_in, text_or_none, value_in}
+use Rattle.xs_var.specs.Elements.{text_in, text_or_none, value_in}
 use Rattle.xs_var.specs.Like.{declaration, single_domain}
 use Rattle.xs_var.specs.Taken.{IsTaken}
 use Rattle.xs_var.specs.VarDomain.{counting_meets, fitting_meets, text_domain, values_in}
@@ -29,7 +29,7 @@ use Rattle.xs_array.specs.Cells.{are_positive, array_cells, cells_by, cells_from
 use Rattle.xs_array.specs.DomainChild.{Named, cell_at}
 use Rattle.xs_array.specs.Reading.{with_content}
 use Rattle.xs_array.proofs.CountLemmas.{no_cells}
-use Rattle.xs_array.proofs.FieldLemmas.{fields_fit, met_at}
+use Rattle.xs_array.proofs.FieldLemmas.{fields_fit}
 
 -- nothing is missed of the element and the names
 pub record IsClear (s : Declared) (n : Node) : Type 0 where

@@ -1,5 +1,5 @@
 -- Which `domain` child names each cell first, as a table of the children's numbers is filled by the children in order.
-use Rattle.std.specs.Prelude.{◌≡◌, ℕ, zero, suc, ◌+◌, ◌<◌, Bool, true, false, nat_eq, ℤ, List, [], ◌∷◌, length, slice_index, slice_index_or, Option, None, Some, if◌then◌else◌, codes}
+use Rattle.std.specs.Prelude.{◌≡◌, ℕ, zero, suc, ◌<◌, Bool, true, false, nat_eq, ℤ, List, [], ◌∷◌, length, slice_index, slice_index_or, Option, None, if◌then◌else◌, codes}
 use Rattle.std.specs.List.{AllByRecursion, list_all}
 use Rattle.xf_markup.specs.declared.tree.Node.{Node}
 use Rattle.xf_num.specs.Span.{Bounds}
@@ -7,7 +7,6 @@ use Rattle.xs_fields.specs.Cells.{are_inside}
 use Rattle.xs_fields.specs.Conditions.{first_missed}
 use Rattle.xs_fields.specs.Variables.{word_meets, word_of}
 use Rattle.xs_fields.specs.Words.{words_of}
-use Rattle.xs_fields.specs.declared.condition.Condition.{Condition}
 use Rattle.xs_var.specs.Elements.{text_in, text_or_none, value_in}
 use Rattle.xs_var.specs.VarDomain.{text_domain}
 use Rattle.xs_array.specs.DomainChild.{Named, is_others, names_place}

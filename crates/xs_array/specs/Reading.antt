@@ -1,5 +1,5 @@
 -- What the reading of an array keeps from step to step.
-use Rattle.std.specs.Prelude.{◌≡◌, ℕ, ◌+◌, ◌&&◌, Bool, nat_le, ℤ, List, [], ◌∷◌, map, sum, Option, None, Some, is_some, Result, Ok, Err, if◌then◌else◌, codes}
+use Rattle.std.specs.Prelude.{◌≡◌, ℕ, ◌+◌, ◌&&◌, Bool, nat_le, ℤ, List, [], map, sum, Option, None, Some, is_some, Result, Ok, Err, if◌then◌else◌, codes}
 use Rattle.std.specs.List.{AllByRecursion, list_any}
 use Rattle.xf_markup.specs.declared.tree.Node.{Node}
 use Rattle.xf_num.specs.Span.{Bounds}

@@ -1,4 +1,4 @@
-use Rattle.std.proofs.Common.{◌≡◌, ◌+◌, ◌≤◌, ◌*◌, ℤ, ℕ, pos, ap, sym, ◌∙◌, arith, rules, drop, get_or, slice_index_or, FitsSigned, to_z, of_z, to_z-of_z, subst}
+use Rattle.std.proofs.Common.{◌≡◌, ◌+◌, ◌≤◌, ◌*◌, ℤ, ℕ, pos, ap, sym, ◌∙◌, rules, drop, get_or, slice_index_or, FitsSigned, to_z-of_z, subst}
 use Rattle.std.specs.Int.{w128}
 use Rattle.xs_model.specs.Names.{places_of}
 use Rattle.xs_model.specs.Sound.{cell_count, most_cells}

@@ -1,4 +1,4 @@
-use Rattle.std.proofs.Common.{◌≡◌, ◌∙◌, ◌&&◌, ℕ, Bool, List, Option, [], true, false, map, replicate, is_some, IfOk, ap, sym, subst}
+use Rattle.std.proofs.Common.{◌≡◌, ◌∙◌, ◌&&◌, ℕ, Bool, List, Option, map, replicate, is_some, IfOk, ap, sym, subst}
 use Rattle.std.specs.List.{list_all, range_with_len}
 use Rattle.xf_markup.specs.declared.tree.Piece.{Piece}
 use Rattle.xf_num.specs.Span.{Bounds}
@@ -6,7 +6,7 @@ use Rattle.xs_var.specs.Elements.{children_of, text_in}
 use Rattle.xs_var.specs.VarDomain.{text_domain}
 use Rattle.xs_var.specs.Variable.{has_no_child}
 use Rattle.xs_model.specs.Sound.{cell_count}
-use Rattle.xs_array.specs.DomainChild.{Named, are_apart, cell_at, named_by}
+use Rattle.xs_array.specs.DomainChild.{are_apart, cell_at, named_by}
 use Rattle.xs_array.proofs.FieldLemmas.{no_children, some_children}
 use Rattle.xs_array.proofs.NamedLemmas.{child_cells_are, child_full_is, text_cells, text_full}
 use Rattle.xs_array.proofs.cells.named_cells.Goals as goal

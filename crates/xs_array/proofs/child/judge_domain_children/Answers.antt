@@ -1,4 +1,4 @@
-use Rattle.std.proofs.Common.{◌≡◌, ◌∙◌, ◌++◌, List, ap, sym, drop, ◌+◌}
+use Rattle.std.proofs.Common.{◌∙◌, ◌++◌, List, ap, sym, drop, ◌+◌}
 use Rattle.std.specs.List.{list_all}
 use Rattle.xf_markup.specs.declared.tree.Node.{Node}
 use Rattle.xs_fields.specs.Conditions.{earlier_of, first_missed}

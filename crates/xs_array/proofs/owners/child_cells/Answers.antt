@@ -1,8 +1,8 @@
-use Rattle.std.proofs.Common.{◌≡◌, ◌≤◌, ◌∙◌, ◌&&◌, ◌++◌, take, drop, arith, ℕ, Bool, List, Option, length, map, is_some, ap, sym, subst, true, false, refl}
+use Rattle.std.proofs.Common.{◌≡◌, ◌≤◌, ◌∙◌, ◌&&◌, ◌++◌, take, drop, arith, ℕ, Bool, List, Option, length, map, is_some, ap, sym, subst}
 use Rattle.std.specs.List.{AllByRecursion, list_all}
 use Rattle.xf_num.specs.Span.{Bounds}
 use Rattle.xs_var.specs.Elements.{children_of}
-use Rattle.xs_array.specs.DomainChild.{Named, named_by}
+use Rattle.xs_array.specs.DomainChild.{named_by}
 use Rattle.xs_array.specs.Owners.{child_domain, picked}
 use Rattle.xs_array.proofs.OwnerLemmas.{Claims, cells_are, defined_are, front_all, owners_len, owners_within}
 use Rattle.xs_array.proofs.owners.child_cells.Goals as goal

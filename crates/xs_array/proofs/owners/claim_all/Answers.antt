@@ -1,4 +1,4 @@
-use Rattle.std.proofs.Common.{◌≡◌, ◌∙◌, ◌+◌, ◌&&◌, ◌++◌, [], ◌∷◌, List, Option, ap, sym, drop, refl, true}
+use Rattle.std.proofs.Common.{◌∙◌, ◌+◌, ◌&&◌, ◌++◌, [], ◌∷◌, List, Option, ap, drop, refl, true}
 use Rattle.std.proofs.lemmas.List.{drop_all}
 use Rattle.xf_markup.specs.declared.tree.Node.{Node}
 use Rattle.xf_num.specs.Span.{Bounds}

@@ -1,7 +1,6 @@
 use Rattle.std.proofs.Common.{◌≡◌, ◌<◌, ℕ, List, length, subst, sym, ap, ◌∙◌, false}
 use Rattle.std.specs.List.{AllByRecursion, flat_map}
 use Rattle.xs_fields.specs.Words.{words_of}
-use Rattle.xs_model.specs.Sound.{cell_count}
 use Rattle.xs_array.specs.DomainChild.{is_others, word_places}
 use Rattle.xs_array.specs.Owners.{for_text}
 use Rattle.xs_array.proofs.OwnerLemmas.{words_below}

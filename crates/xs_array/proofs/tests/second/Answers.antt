@@ -1,10 +1,10 @@
-use Rattle.std.proofs.Common.{◌≡◌, ℕ, ◌+◌, ◌<◌, ◌≤◌, Bool, List, [], ◌∷◌, length, map, is_some, Option, None, Some, Result, IfOk, subst, ap, arith}
+use Rattle.std.proofs.Common.{◌≡◌, ◌+◌, ◌<◌, ◌≤◌, List, [], ◌∷◌, length, map, is_some, Option, None, Some, Result, IfOk, subst, ap, arith}
 use Rattle.xf_num.specs.Span.{Bounds}
 use Rattle.xs_fields.specs.declared.condition.Condition.{Condition}
 use Rattle.xs_model.specs.declared.decl.Decl.{Decl}
 use Rattle.xs_model.specs.declared.decl.Decl.TheVariants.{One, Array}
 use Rattle.xs_model.specs.Outline.{Outline, defined_count, outline_of, variables_in}
-use Rattle.xs_model.specs.Sound.{cells_of, most_cells}
+use Rattle.xs_model.specs.Sound.{cells_of}
 use Rattle.xs_var.specs.declared.counted.Counted.{Counted}
 use Rattle.xs_var.specs.Taken.{IsSoundTaken}
 use Rattle.xs_var.specs.VarUnit.{Declared}

@@ -1,4 +1,4 @@
-use Rattle.std.proofs.Common.{◌≡◌, ◌&&◌, ◌∙◌, Some, None, ap, sym}
+use Rattle.std.proofs.Common.{◌≡◌, ◌∙◌, ap, sym}
 use Rattle.xs_fields.specs.Conditions.{first_missed}
 use Rattle.xs_model.specs.Outline.{names_in}
 use Rattle.xs_model.specs.Sound.{names_of}

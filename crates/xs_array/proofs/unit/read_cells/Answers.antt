@@ -1,8 +1,6 @@
-use Rattle.std.proofs.Common.{◌≡◌, Bool, ◌≤◌, ◌+◌, ◌∙◌, ℕ, List, ℤ, Option, Result, Err, IfOk, ap, sym, subst, arith, codes, false, true}
+use Rattle.std.proofs.Common.{◌≡◌, Bool, ◌≤◌, ◌+◌, ◌∙◌, ℕ, List, ℤ, Option, IfOk, ap, sym, subst, arith, codes, false, true}
 use Rattle.std.specs.List.{AllByRecursion}
-use Rattle.xs_fields.specs.declared.condition.Condition.{Condition}
 use Rattle.xs_model.specs.Sound.{IsSize, cell_count, most_cells}
-use Rattle.xs_var.specs.declared.counted.Counted.{Counted}
 use Rattle.xs_var.specs.Elements.{text_or_none, value_in}
 use Rattle.xs_var.specs.Taken.{IsSoundTaken, IsTaken}
 use Rattle.xs_var.specs.VarUnit.{Declared}
