@@ -8,3 +8,4 @@ pub mod MissedLemmas
 pub mod WordsLemmas
 pub mod ShapeLemmas
 pub mod WithinLemmas
+pub mod CountLemmas

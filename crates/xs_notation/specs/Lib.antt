@@ -5,3 +5,4 @@ pub mod Nesting
 pub mod Terms
 pub mod Forms
 pub mod Reading
+pub mod Count

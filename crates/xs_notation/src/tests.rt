@@ -2,7 +2,7 @@ ghost use Rattle.std.specs.Prelude.{◌≡◌, ◌∷◌, [], pos, codes, true, 
 ghost use Rattle.xs_model.specs.Outline.{outline_of};
 ghost use Rattle.xs_model.specs.declared.decl.Decl.{Decl};
 
-use crate::{judge_notation, read_expr};
+use crate::{count_nodes, judge_notation, read_expr};
 use std::alloc::Global;
 use std::test::Fail;
 use xf_num::{Domain, NoMemory, Row, Span, Text};
@@ -329,4 +329,18 @@ fn depths(rt: HostRuntime) -> Result<(), Fail> {
         Err(stop) => assert_eq!(rt; stop, FieldStop::Refused(Kind::Depth)),
     }
     Ok(())
+}
+
+#[test]
+fn nodes(rt: HostRuntime) {
+    let cases: [(&[u8], u64); 4] = [
+        (b" 7 ", 1),
+        (b"neg(x)", 2),
+        (b"add(x,1,mul(x,y))", 6),
+        (b"in(x,set(1,2))", 5),
+    ];
+    for (text, want) in cases {
+        assert_eq!(rt; count_nodes(text, want), Some(want));
+        assert_eq!(rt; count_nodes(text, want - 1), None);
+    }
 }

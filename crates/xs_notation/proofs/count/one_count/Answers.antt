@@ -1,0 +1,5 @@
+use Rattle.xs_notation.proofs.CountLemmas.{one-count}
+use Rattle.xs_notation.proofs.count.one_count.Goals as goal
+
+pub returns : goal.returns
+returns c = one-count
