@@ -1,3 +1,4 @@
 pub mod Made
 pub mod PowerLemmas
 pub mod LowerLemmas
+pub mod Within

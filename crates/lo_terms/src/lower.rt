@@ -1,12 +1,12 @@
 //! Expressions, from their operands up.
 
-ghost use Rattle.std.specs.Prelude.{◌∷◌, [], ◌≡◌, ◌+◌, ◌*◌, ◌≤◌, ◌<◌, ◌^◌, All, length, IfOk, OnOk, OnErr, IsErrOf, IsOk};
+ghost use Rattle.std.specs.Prelude.{◌∷◌, [], ◌≡◌, ◌+◌, ◌*◌, ◌≤◌, ◌<◌, ◌^◌, All, length, IfOk, OnOk, OnErr, IsErrOf};
 ghost use Rattle.std.specs.List.{list_all};
 ghost use Rattle.xf_text.specs.Outside.{Rose};
 ghost use Rattle.lo_base.specs.Item.{made};
 ghost use Rattle.lo_terms.specs.Lowering.{single, own_low, span_of, is_literal, is_written, has_written, low_expr, low_operands, low_intension, nodes, nodes_of};
 ghost use Rattle.lo_terms.specs.Rules.{literal, variable, own_mode, operand_mode};
-ghost use Rattle.xs_expr.specs.Bounds.{bounds, HasSpans};
+ghost use Rattle.xs_expr.specs.Bounds.{HasSpans};
 ghost use Rattle.xs_expr.specs.Shape.{IsShaped, is_set_operator};
 
 use crate::node::{literal, node, variable};
@@ -235,7 +235,8 @@ fn lower_operands<E: Emit>(
 }
 
 /// Appends what states an expression that is well formed. `spans` are the bounds of the variables. The expression
-/// has fewer than 2^40 nodes, and there are at most 2^60 variables before it. On an `Err` it began the items.
+/// has fewer than 2^40 nodes, and there are at most 2^60 variables before it. On an `Err` it began the items. Where
+/// a node of the expression is at fault at these bounds, 0 stands for both of its bounds, and the items mean nothing.
 pub fn lower_intension<E: Emit>(
     alloc: Global,
     e: &Expr,
@@ -244,7 +245,6 @@ pub fn lower_intension<E: Emit>(
 ) -> Result<(), EmitStop>
     requires shaped { IsShaped e.now }
     requires variables { HasSpans spans.now e.now }
-    requires no_fault { IsOk (bounds spans.now e.now) }
     requires few { nodes e.now < 2 ^ 40 }
     requires room { E.count out.old ≤ 2 ^ 60 }
     ensures ok { OnOk result (E.grew out.old out.new (low_intension spans.now (E.count out.old) e.now)) }

@@ -1,14 +1,18 @@
-ghost use Rattle.std.specs.Prelude.{◌≡◌, []};
+ghost use Rattle.std.specs.Prelude.{◌≡◌, [], All, IfSome};
+ghost use Rattle.lo_terms.specs.Lowering.{nodes, nodes_of};
+ghost use Rattle.xs_expr.specs.Bounds.{HasVariables};
 
+use crate::lower_intension;
 use crate::node::{literal, node, variable};
 use crate::term::{Mode, Operand, Term};
 use fz_model::{Arg, FzVar, Goal, Model};
 use itoa::Buffer;
-use lo_base::Held;
+use lo_base::{Emit, Held};
 use std::alloc::Global;
 use std::test::Fail;
 use xf_num::{NoMemory, Row, Span, Text};
-use xs_model::Op;
+use xs_expr::{bounds, is_shaped};
+use xs_model::{Expr, Op};
 
 fn write_integer(value: i128, text: &mut Text) -> Result<(), NoMemory> {
     let mut buffer = Buffer::new();
@@ -416,5 +420,306 @@ fn leaves(rt: HostRuntime) -> Result<(), Fail> {
     for (mode, wanted) in variables {
         assert_eq!(rt; lowered_variable(rt.alloc(), mode, 20)?.as_slice(), wanted);
     }
+    Ok(())
+}
+
+// How many nodes an expression has, where its variables are among the first so many.
+#[cycle(counting)]
+fn nodes_within(e: &Expr, variables: usize) -> Option<u64>
+    ensures { IfSome result (λ k. (k ≡ nodes e.now) × HasVariables variables e.now) }
+{
+    match e {
+        Expr::Int(_) => Some(1),
+        Expr::Var(number) => {
+            if (*number as usize) < variables {
+                Some(1)
+            } else {
+                None
+            }
+        }
+        Expr::Node(_, items) => match all_within(items.as_slice(), variables) {
+            Some(below) => below.checked_add(1),
+            None => None,
+        },
+    }
+}
+
+#[cycle(counting)]
+fn all_within(items: &[Expr], variables: usize) -> Option<u64>
+    ensures { IfSome result (λ k. (k ≡ nodes_of items.now) × All (HasVariables variables) items.now) }
+{
+    let mut total: u64 = 0;
+    for item in items {
+        match nodes_within(item, variables) {
+            Some(more) => match total.checked_add(more) {
+                Some(sum) => total = sum,
+                None => return None,
+            },
+            None => return None,
+        }
+    }
+    Some(total)
+}
+
+// What states an expression over three Boolean variables that stand for integers of these bounds.
+fn stated(alloc: Global, e: &Expr) -> Result<Text, Fail> {
+    let spans = [
+        Span::new(-2, 3).unwrap(),
+        Span::new(0, 5).unwrap(),
+        Span::new(0, 1).unwrap(),
+    ];
+    let mut held = nothing_yet(alloc);
+    held.new_bool()?;
+    held.new_bool()?;
+    held.new_bool()?;
+    if let Some(count) = nodes_within(e, 3) {
+        if count < 100 && is_shaped(e) && bounds(e, &spans).is_ok() {
+            lower_intension(alloc, e, &spans, &mut held)?;
+        }
+    }
+    let text = written(alloc, &held.finish(Goal::Satisfy))?;
+    Ok(text)
+}
+
+fn x() -> Expr {
+    Expr::Var(0)
+}
+
+fn y() -> Expr {
+    Expr::Var(1)
+}
+
+fn t() -> Expr {
+    Expr::Var(2)
+}
+
+fn one(alloc: Global, op: Op, a: Expr) -> Result<Expr, NoMemory> {
+    let mut operands = Row::new(alloc);
+    operands.push(a)?;
+    Ok(Expr::Node(op, operands))
+}
+
+fn two(alloc: Global, op: Op, a: Expr, b: Expr) -> Result<Expr, NoMemory> {
+    let mut operands = Row::new(alloc);
+    operands.push(a)?;
+    operands.push(b)?;
+    Ok(Expr::Node(op, operands))
+}
+
+fn three(alloc: Global, op: Op, a: Expr, b: Expr, c: Expr) -> Result<Expr, NoMemory> {
+    let mut operands = Row::new(alloc);
+    operands.push(a)?;
+    operands.push(b)?;
+    operands.push(c)?;
+    Ok(Expr::Node(op, operands))
+}
+
+#[test]
+fn sums(rt: HostRuntime) -> Result<(), Fail> {
+    let a = rt.alloc();
+    let e = two(a, Op::Le, two(a, Op::Add, x(), y())?, Expr::Int(3))?;
+    assert_eq!(rt;
+        stated(a, &e)?.as_slice(),
+        b"bool; bool; bool; -2..8; int_lin_eq [ 1 1 -1 ] [ v0 v1 v3 ] 0; int_le v3 3; ".as_slice()
+    );
+    Ok(())
+}
+
+#[test]
+fn connectives(rt: HostRuntime) -> Result<(), Fail> {
+    let a = rt.alloc();
+    let e = two(
+        a,
+        Op::And,
+        two(a, Op::Lt, x(), y())?,
+        two(
+            a,
+            Op::Or,
+            two(a, Op::Eq, x(), Expr::Int(1))?,
+            two(a, Op::Gt, y(), Expr::Int(2))?,
+        )?,
+    )?;
+    assert_eq!(rt;
+        stated(a, &e)?.as_slice(),
+        b"bool; bool; bool; bool; bool; int_lt v0 v1; int_eq_reif v0 1 v3; int_lt_reif 2 v1 v4; bool_clause [ v3 v4 ] [ ]; ".as_slice()
+    );
+    Ok(())
+}
+
+#[test]
+fn choices(rt: HostRuntime) -> Result<(), Fail> {
+    let a = rt.alloc();
+    let e = two(
+        a,
+        Op::Eq,
+        three(
+            a,
+            Op::If,
+            two(a, Op::Lt, x(), y())?,
+            x(),
+            two(a, Op::Add, y(), Expr::Int(1))?,
+        )?,
+        two(a, Op::Dist, x(), y())?,
+    )?;
+    assert_eq!(rt;
+        stated(a, &e)?.as_slice(),
+        b"bool; bool; bool; bool; 1..6; 0..1; 1..2; -2..6; -7..3; 0..7; int_lt_reif v0 v1 v3; int_lin_eq [ 1 1 -1 ] [ v1 1 v4 ] 0; bool2int v3 v5; int_lin_eq [ 1 1 ] [ v5 v6 ] 2; array_var_int_element v6 [ v0 v4 ] v7; int_lin_eq [ 1 -1 -1 ] [ v0 v1 v8 ] 0; int_abs v8 v9; int_eq v7 v9; ".as_slice()
+    );
+    Ok(())
+}
+
+#[test]
+fn members_that_are_no_literals(rt: HostRuntime) -> Result<(), Fail> {
+    let a = rt.alloc();
+    let e = two(
+        a,
+        Op::In,
+        two(a, Op::Mul, x(), y())?,
+        three(
+            a,
+            Op::Set,
+            Expr::Int(1),
+            two(a, Op::Pow, Expr::Int(3), Expr::Int(1))?,
+            x(),
+        )?,
+    )?;
+    assert_eq!(rt;
+        stated(a, &e)?.as_slice(),
+        b"bool; bool; bool; -10..15; bool; bool; bool; bool; int_times v0 v1 v3; int_eq_reif v3 1 v4; int_eq_reif v3 3 v5; int_eq_reif v3 v0 v6; array_bool_or [ v4 v5 v6 ] v7; bool_clause [ v7 ] [ ]; ".as_slice()
+    );
+    Ok(())
+}
+
+#[test]
+fn literal_members(rt: HostRuntime) -> Result<(), Fail> {
+    let a = rt.alloc();
+    let e = one(
+        a,
+        Op::Not,
+        two(a, Op::In, x(), two(a, Op::Set, Expr::Int(2), Expr::Int(1))?)?,
+    )?;
+    assert_eq!(rt;
+        stated(a, &e)?.as_slice(),
+        b"bool; bool; bool; bool; set_in_reif v0 { 2 1 } v3; bool_clause [ ] [ v3 ]; ".as_slice()
+    );
+    Ok(())
+}
+
+#[test]
+fn empty_sets(rt: HostRuntime) -> Result<(), Fail> {
+    let a = rt.alloc();
+    let e = two(
+        a,
+        Op::Iff,
+        t(),
+        two(
+            a,
+            Op::NotIn,
+            one(a, Op::Neg, y())?,
+            Expr::Node(Op::Set, Row::new(a)),
+        )?,
+    )?;
+    assert_eq!(rt;
+        stated(a, &e)?.as_slice(),
+        b"bool; bool; bool; bool; -5..0; bool; bool; bool2int v3 v2; int_lin_eq [ 1 1 ] [ v1 v4 ] 0; bool_not false v5; bool_eq_reif v3 v5 v6; bool_clause [ v6 ] [ ]; ".as_slice()
+    );
+    Ok(())
+}
+
+#[test]
+fn implications(rt: HostRuntime) -> Result<(), Fail> {
+    let a = rt.alloc();
+    let e = two(
+        a,
+        Op::Imp,
+        two(a, Op::Ge, x(), Expr::Int(1))?,
+        three(
+            a,
+            Op::Xor,
+            two(a, Op::Lt, x(), y())?,
+            t(),
+            two(a, Op::Ne, x(), y())?,
+        )?,
+    )?;
+    assert_eq!(rt;
+        stated(a, &e)?.as_slice(),
+        b"bool; bool; bool; bool; bool; bool; bool; bool; bool; int_le_reif 1 v0 v3; int_lt_reif v0 v1 v4; bool2int v5 v2; int_ne_reif v0 v1 v6; bool_xor v4 v5 v7; bool_xor v7 v6 v8; bool_clause [ v8 ] [ v3 ]; ".as_slice()
+    );
+    Ok(())
+}
+
+#[test]
+fn quotients(rt: HostRuntime) -> Result<(), Fail> {
+    let a = rt.alloc();
+    let e = two(
+        a,
+        Op::Eq,
+        two(a, Op::Add, two(a, Op::Lt, x(), y())?, Expr::Int(2))?,
+        two(
+            a,
+            Op::Mod,
+            two(a, Op::Div, y(), Expr::Int(2))?,
+            Expr::Int(3),
+        )?,
+    )?;
+    assert_eq!(rt;
+        stated(a, &e)?.as_slice(),
+        b"bool; bool; bool; bool; 0..1; 2..3; 0..2; 0..2; int_lt_reif v0 v1 v3; bool2int v3 v4; int_lin_eq [ 1 1 -1 ] [ v4 2 v5 ] 0; int_div v1 2 v6; int_mod v6 3 v7; int_eq v5 v7; ".as_slice()
+    );
+    Ok(())
+}
+
+#[test]
+fn statements_in_turn(rt: HostRuntime) -> Result<(), Fail> {
+    let a = rt.alloc();
+    let e = three(
+        a,
+        Op::And,
+        three(a, Op::And, t(), Expr::Int(1), Expr::Int(0))?,
+        two(a, Op::Ne, x(), y())?,
+        two(a, Op::Iff, t(), t())?,
+    )?;
+    assert_eq!(rt;
+        stated(a, &e)?.as_slice(),
+        b"bool; bool; bool; bool; bool; bool; bool; bool2int v3 v2; bool_clause [ v3 ] [ ]; bool_clause [ true ] [ ]; bool_clause [ false ] [ ]; int_ne v0 v1; bool2int v4 v2; bool2int v5 v2; bool_eq_reif v4 v5 v6; bool_clause [ v6 ] [ ]; ".as_slice()
+    );
+    Ok(())
+}
+
+#[test]
+fn powers_and_greatest(rt: HostRuntime) -> Result<(), Fail> {
+    let a = rt.alloc();
+    let e = three(
+        a,
+        Op::Eq,
+        x(),
+        two(a, Op::Pow, y(), Expr::Int(3))?,
+        two(a, Op::Max, x(), two(a, Op::Sub, x(), y())?)?,
+    )?;
+    assert_eq!(rt;
+        stated(a, &e)?.as_slice(),
+        b"bool; bool; bool; 0..25; 0..125; -7..3; -2..3; int_times v1 v1 v3; int_times v3 v1 v4; int_lin_eq [ 1 -1 -1 ] [ v0 v1 v5 ] 0; array_int_maximum v6 [ v0 v5 ]; int_eq v0 v4; int_eq v4 v6; ".as_slice()
+    );
+    Ok(())
+}
+
+#[test]
+fn products(rt: HostRuntime) -> Result<(), Fail> {
+    let a = rt.alloc();
+    let e = two(
+        a,
+        Op::Or,
+        two(
+            a,
+            Op::Eq,
+            two(a, Op::Mul, x(), y())?,
+            three(a, Op::Mul, Expr::Int(2), x(), x())?,
+        )?,
+        two(a, Op::NotIn, x(), two(a, Op::Set, Expr::Int(4), y())?)?,
+    )?;
+    assert_eq!(rt;
+        stated(a, &e)?.as_slice(),
+        b"bool; bool; bool; -10..15; -4..6; -12..18; bool; bool; bool; bool; bool; int_times v0 v1 v3; int_times 2 v0 v4; int_times v4 v0 v5; int_eq_reif v3 v5 v6; int_eq_reif v0 4 v7; int_eq_reif v0 v1 v8; array_bool_or [ v7 v8 ] v9; bool_not v9 v10; bool_clause [ v6 v10 ] [ ]; ".as_slice()
+    );
     Ok(())
 }

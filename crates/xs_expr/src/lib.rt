@@ -11,7 +11,7 @@
 //!
 //! Of a text it says whether its parentheses are too deep (`specs/Depth.antt`), which operator a name is
 //! (`specs/Text.antt`), what its tokens are (`specs/Tokens.antt`), and which words are exponents (`specs/Words.antt`).
-//! It does not read an expression from them yet.
+//! `xs_notation` reads an expression from them.
 #![tactic(auto)]
 
 mod depth;
