@@ -4,12 +4,14 @@
 mod conversions;
 mod markup;
 mod refusals;
+mod sections;
 
 ghost use Rattle.std.specs.Prelude.{◌≡◌, ◌<◌, IfOk};
 
 use self::conversions::{CELLS, DOMAINS, FILES, LISTS, NAMES, TAKEN};
 use self::markup::{ENDS, FIRST, FITS, TOKENS};
-use self::refusals::{COUNTS, MAGNITUDES, ORDER, SECTIONS, SHAPES, UNKNOWN};
+use self::refusals::{COUNTS, MAGNITUDES, ORDER, SHAPES, UNKNOWN};
+use self::sections::SECTIONS;
 use crate::engine::run;
 use std::alloc::Global;
 use std::test::Fail;
