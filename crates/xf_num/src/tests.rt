@@ -28,6 +28,18 @@ fn rows_are_lists(rt: HostRuntime) -> Result<(), Fail> {
 }
 
 #[test]
+fn items_are_replaced(rt: HostRuntime) -> Result<(), Fail> {
+    let mut row: Ints = Row::new(rt.alloc());
+    row.extend(&[5, 6, -7])?;
+    assert_eq!(rt; row.replace(1, 8), 6);
+    assert_eq!(rt; row.as_slice(), [5, 8, -7].as_slice());
+    assert_eq!(rt; row.replace(2, 9), -7);
+    assert_eq!(rt; row.replace(2, 10), 9);
+    assert_eq!(rt; row.as_slice(), [5, 8, 10].as_slice());
+    Ok(())
+}
+
+#[test]
 fn stacks_are_lists_from_their_top(rt: HostRuntime) -> Result<(), Fail> {
     let mut stack: Stack<u8> = Stack::new(rt.alloc());
     assert_eq!(rt; stack.top(), None);

@@ -1,3 +1,4 @@
+mod ChildLemmas
 mod ConstraintLemmas
 mod OutcomeLemmas
 mod ReadingLemmas

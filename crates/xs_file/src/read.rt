@@ -20,7 +20,7 @@ fn read_text(alloc: Global, text: &[u8]) -> Result<Instance, Stop>
     ensures refused { IfErr result (λ stop. IsRefusal text.now stop) }
 {
     let root = read_tree(alloc, text)?;
-    let held = read_root(alloc, &root)?;
+    let held = read_root(alloc, root)?;
     Ok(held.into_instance())
 }
 

@@ -1,6 +1,6 @@
 //! The sections of an instance.
 
-ghost use Rattle.std.specs.Prelude.{◌≡◌, ◌≢◌, ◌∷◌, [], map, nat_lt, length, IfOk};
+ghost use Rattle.std.specs.Prelude.{◌≡◌, ◌≢◌, ◌∷◌, [], map, nat_lt, length, IfOk, MatchOption};
 ghost use Rattle.std.specs.List.{flat_map};
 ghost use Rattle.xf_text.specs.declared.fault.Stop.TheVariants.{Refused as StopRefused};
 ghost use Rattle.xs_fields.specs.Conditions.{IsOrMemory, answer, kind_of};
@@ -17,6 +17,7 @@ use crate::held::Held;
 use crate::judge::{judge_constraints, judge_instance, judge_objectives};
 use std::alloc::Global;
 use xf_markup::{Node, Piece};
+use xf_num::Row;
 use xf_text::{Fault, FieldStop, Kind, Stop};
 use xs_fields::Condition;
 use xs_model::Constraint;
@@ -139,9 +140,23 @@ fn read_rest(alloc: Global, pieces: &[Piece], held: &mut Held) -> Result<(), Sto
     Ok(())
 }
 
-// The declarations of `variables`.
-fn read_first(alloc: Global, node: &Node) -> Result<Held, Stop>
-    ensures outcome { IsRead (λ h. h.declared) result (variables_outcome node.now) }
+// Takes out the first child. An empty text is left at its place, so that the other children are those of the pieces.
+fn take_child(alloc: Global, pieces: &mut Row<Piece>) -> Option<Node>
+    ensures { MatchOption result (children_of pieces.old ≡ []) (λ n. children_of pieces.old ≡ n ∷ children_of pieces.new) }
+{
+    for i in 0..pieces.len() {
+        let piece = pieces.replace(i, Piece::Words(Row::new(alloc)));
+        match piece {
+            Piece::Inner(node) => return Some(node),
+            Piece::Words(_) => {}
+        }
+    }
+    None
+}
+
+// The declarations of `variables`, which is let go while it is read.
+fn read_first(alloc: Global, node: Node) -> Result<Held, Stop>
+    ensures outcome { IsRead (λ h. h.declared) result (variables_outcome node) }
     ensures begun { IfOk result (λ h. h ≡ begun h.declared) }
 {
     let declarations = read_declarations(alloc, node)?;
@@ -149,14 +164,14 @@ fn read_first(alloc: Global, node: &Node) -> Result<Held, Stop>
 }
 
 // `variables`, which is the first child, and the sections behind it.
-fn read_sections(alloc: Global, pieces: &[Piece]) -> Result<Held, Stop>
-    requires { children_of pieces.now ≢ [] }
-    ensures { IsRead (λ h. h) result (sections_outcome (children_of pieces.now)) }
+fn read_sections(alloc: Global, mut pieces: Row<Piece>) -> Result<Held, Stop>
+    requires { children_of pieces ≢ [] }
+    ensures { IsRead (λ h. h) result (sections_outcome (children_of pieces)) }
 {
-    match next_child(pieces) {
-        Some((variables, rest)) => {
+    match take_child(alloc, &mut pieces) {
+        Some(variables) => {
             let mut held = read_first(alloc, variables)?;
-            read_rest(alloc, rest, &mut held)?;
+            read_rest(alloc, pieces.as_slice(), &mut held)?;
             Ok(held)
         }
         None => unreachable!(),
@@ -164,12 +179,12 @@ fn read_sections(alloc: Global, pieces: &[Piece]) -> Result<Held, Stop>
 }
 
 /// What is read of an instance. Refused exactly where a unit misses a condition, with the fault of the first.
-pub fn read_root(alloc: Global, node: &Node) -> Result<Held, Stop>
-    ensures { IsRead (λ h. h) result (instance_outcome node.now) }
+pub fn read_root(alloc: Global, node: Node) -> Result<Held, Stop>
+    ensures { IsRead (λ h. h) result (instance_outcome node) }
 {
-    let missed = judge_instance(alloc, node)?;
+    let missed = judge_instance(alloc, &node)?;
     match missed {
         Some(missed) => Err(refused(missed, node.place)),
-        None => read_sections(alloc, node.pieces.as_slice()),
+        None => read_sections(alloc, node.pieces),
     }
 }

@@ -1,4 +1,4 @@
-mod ChildLemmas
+pub mod ChildLemmas
 mod DeclaredLemmas
 mod DomainLemmas
 mod VarLemmas

@@ -65,9 +65,9 @@ fn with_child(alloc: Global, node: &Node, known: Declarations) -> Result<Declara
 }
 
 /// What the children among these pieces declare. Refused exactly where a child misses a condition, with the fault
-/// of the first.
-pub fn read_children(alloc: Global, pieces: &[Piece]) -> Result<Declarations, Stop>
-    ensures outcome { IsRead declared_of result (outcome nothing (map child_unit (children_of pieces.now))) }
+/// of the first. Each child is let go once it is read, so that what it declares takes the room that it had.
+pub fn read_children(alloc: Global, mut pieces: Row<Piece>) -> Result<Declarations, Stop>
+    ensures outcome { IsRead declared_of result (outcome nothing (map child_unit (children_of pieces))) }
     ensures kept { IfOk result (λ d. IsKept d) }
 {
     let mut known = Declarations {
@@ -76,9 +76,10 @@ pub fn read_children(alloc: Global, pieces: &[Piece]) -> Result<Declarations, St
         cells: 0,
         values: 0,
     };
-    for piece in pieces {
+    for i in 0..pieces.len() {
+        let piece = pieces.replace(i, Piece::Words(Row::new(alloc)));
         match piece {
-            Piece::Inner(node) => known = with_child(alloc, node, known)?,
+            Piece::Inner(node) => known = with_child(alloc, &node, known)?,
             Piece::Words(_) => {}
         }
     }

@@ -25,24 +25,25 @@ pub struct Declarations {
     pub values: u64,
 }
 
-/// What `variables` declares. Refused exactly where a unit misses a condition, with the fault of the first.
-pub fn read_declarations(alloc: Global, node: &Node) -> Result<Declarations, Stop>
-    ensures outcome { IsRead declared_of result (variables_outcome node.now) }
+/// What `variables` declares. Refused exactly where a unit misses a condition, with the fault of the first. Each unit
+/// is let go once it is read.
+pub fn read_declarations(alloc: Global, node: Node) -> Result<Declarations, Stop>
+    ensures outcome { IsRead declared_of result (variables_outcome node) }
     ensures names { IfOk result (λ d. d.names ≡ outlines_of d.decls) }
     ensures sound { IfOk result (λ d. IsSoundDeclared (declared_of d)) }
     ensures few { IfOk result (λ d. length (words d.decls) < 2 ^ 32) }
 {
-    let missed = judge_variables(alloc, node)?;
+    let missed = judge_variables(alloc, &node)?;
     match missed {
         Some(condition) => Err(refused(condition, node.place)),
-        None => read_children(alloc, node.pieces.as_slice()),
+        None => read_children(alloc, node.pieces),
     }
 }
 
 /// The declarations of `variables` and their names. Refused exactly where a unit misses a condition, with the fault
 /// of the first.
-pub fn read_variables(alloc: Global, node: &Node) -> Result<(Decls, Names), Stop>
-    ensures outcome { IsRead (λ x. x.0) result (decls_in (variables_outcome node.now)) }
+pub fn read_variables(alloc: Global, node: Node) -> Result<(Decls, Names), Stop>
+    ensures outcome { IsRead (λ x. x.0) result (decls_in (variables_outcome node)) }
     ensures names { IfOk result (λ x. x.1 ≡ outlines_of x.0) }
 {
     let read = read_declarations(alloc, node)?;
