@@ -9,3 +9,11 @@ pub mod WordsLemmas
 pub mod ShapeLemmas
 pub mod WithinLemmas
 pub mod CountLemmas
+pub mod Decimals
+pub mod Marked
+pub mod Places
+pub mod Direct
+pub mod Reached
+pub mod Declared
+pub mod ReadBack
+pub mod WrittenAgain

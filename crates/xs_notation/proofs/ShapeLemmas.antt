@@ -33,13 +33,13 @@ both-right true b h = h
 both-right false b h = cc
 
 -- an expression without operands
-out-Int : (z : ℤ) → out-Expr (Int z) ≡ Expr-F.Int z
+pub out-Int : (z : ℤ) → out-Expr (Int z) ≡ Expr-F.Int z
 out-Int z = ap out-Expr (sym (rolls-Int z)) ∙ out-roll-Expr (Expr-F.Int z)
 
-out-Var : (v : ℕ) → out-Expr (Var v) ≡ Expr-F.Var v
+pub out-Var : (v : ℕ) → out-Expr (Var v) ≡ Expr-F.Var v
 out-Var v = ap out-Expr (sym (rolls-Var v)) ∙ out-roll-Expr (Expr-F.Var v)
 
-out-Node : (op : Op) (es : List Expr) → out-Expr (Node op es) ≡ Expr-F.Node op es
+pub out-Node : (op : Op) (es : List Expr) → out-Expr (Node op es) ≡ Expr-F.Node op es
 out-Node op es = ap out-Expr (sym (rolls-Node op es)) ∙ out-roll-Expr (Expr-F.Node op es)
 
 record IsLeaf (e : Expr) : Type 0 where
@@ -74,16 +74,16 @@ exponent-term os w (Some z) h = by (is_small z) refl
     by true e = ap is_exponent_layer (out-Int z) ∙ h
     by false e = let f = great z e in cc
 
-expr-Word : (os : List Outline) (w : List ℕ) → expr_of os (Word w) ≡ term_of os w
+pub expr-Word : (os : List Outline) (w : List ℕ) → expr_of os (Word w) ≡ term_of os w
 expr-Word os w = search (rules, the_lemmas)
 
-expr-Call : (os : List Outline) (op : Op) (rs : List Raw) → expr_of os (Call op rs) ≡ Node op (map (expr_of os) rs)
+pub expr-Call : (os : List Outline) (op : Op) (rs : List Raw) → expr_of os (Call op rs) ≡ Node op (map (expr_of os) rs)
 expr-Call os op rs = search (rules, the_lemmas)
 
-form-Word : (w : List ℕ) → form (Word w) ≡ form_step (Raw-F.Word w)
+pub form-Word : (w : List ℕ) → form (Word w) ≡ form_step (Raw-F.Word w)
 form-Word w = search (rules, the_lemmas)
 
-form-Call : (op : Op) (rs : List Raw) → form (Call op rs) ≡ form_step (Raw-F.Call op (map form rs))
+pub form-Call : (op : Op) (rs : List Raw) → form (Call op rs) ≡ form_step (Raw-F.Call op (map form rs))
 form-Call op rs = search (rules, the_lemmas)
 
 module _ (os : List Outline) where

@@ -27,6 +27,6 @@ mod text;
 mod word;
 
 pub use count::{count_nodes, one_count};
-pub use law::one_notation;
+pub use law::{one_notation, written_again};
 pub use raw::Raw;
 pub use text::{judge_notation, read_expr};
