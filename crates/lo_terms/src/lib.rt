@@ -15,3 +15,4 @@ mod term;
 mod truths;
 
 pub use lower::lower_intension;
+pub use term::{Mode, Operand, Term};
