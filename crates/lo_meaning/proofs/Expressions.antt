@@ -1,5 +1,5 @@
 -- What an expression is lowered to gives its value, or states that it is 1.
-use Rattle.std.proofs.Common.{◌≡◌, ◌≢◌, ◌⊎◌, inl, inr, ℕ, zero, suc, ◌+◌, ◌<◌, ◌≤◌, ◌==◌, ℤ, pos, ◌≤ℤ◌, Bool, true, false, ◌&&◌, List, [], ◌∷◌, ◌++◌, length, map, take, drop, refl, ap, ap₂, sym, ◌∙◌, subst, arith, rules, true≢false, All, Result, Ok, Err}
+use Rattle.std.proofs.Common.{◌≡◌, ◌≢◌, ℕ, ◌+◌, ◌<◌, ◌≤◌, ℤ, pos, Bool, true, false, ◌&&◌, List, [], ◌∷◌, ◌++◌, length, map, drop, refl, ap, ap₂, sym, ◌∙◌, subst, arith, rules, true≢false, All, Result, Ok, Err}
 use Rattle.std.specs.List.{list_all}
 use Rattle.std.proofs.lemmas.Int.{ints}
 use Rattle.std.proofs.lemmas.List.{length-append, append-nil, map-append, length-map}
@@ -15,15 +15,15 @@ use Rattle.xs_model.specs.declared.expr.Op.TheVariants.{Neg, Abs, Sqr, Add, Mul,
 use Rattle.xs_model.specs.declared.expr.Expr.{Expr, Int as int_expr, Var as var_expr, Node as node_expr, the_lemmas, roll-Expr, out-Expr, map-Expr, ind-Expr}
 use Rattle.xs_model.specs.declared.expr.Expr.TheVariants.{rolls-Int, rolls-Var, rolls-Node}
 use Rattle.xs_model.specs.declared.expr.Expr.TheOpen.{Expr-F}
-use Rattle.xs_model.specs.Value.{Worth, at, apply, truth as truth_of, is_true, val, worth, node_worth, second_members}
-use Rattle.xs_expr.specs.Bounds.{bounds, all_ok, prepended, and_then, node_bounds, exactly, is_truth, limited, operand, HasSpan, HasSpans}
+use Rattle.xs_model.specs.Value.{Worth, at, apply, truth as truth_of, is_true, val, worth, second_members}
+use Rattle.xs_expr.specs.Bounds.{bounds, all_ok, and_then, node_bounds, exactly, is_truth, limited, operand, HasSpan, HasSpans}
 use Rattle.xs_expr.specs.Laws.{AreWithin}
 use Rattle.xs_expr.specs.Shape.{IsCount, HasShape, IsShaped, IsExponent, IsExponentLayer, IsMembership, IsPower, AreNoSets, ArePlaced, is_set, is_set_layer, is_set_operator}
 use Rattle.xs_expr.proofs.Every.{every-operands, every-node, every-var}
 use Rattle.xs_expr.proofs.Exponents.{literal}
-use Rattle.xs_expr.proofs.Layers.{bounds-Node, worth-Int, worth-Var, worth-Node, val-Node, members-Set}
+use Rattle.xs_expr.proofs.Layers.{bounds-Node, worth-Int, worth-Var, val-Node, members-Set}
 use Rattle.xs_expr.proofs.Sound.{prepended-is, second-bounds, bounds-sound}
-use Rattle.xs_expr.proofs.Within.{IsHeld, AreHeld, guarded}
+use Rattle.xs_expr.proofs.Within.{AreHeld, guarded}
 use Rattle.lo_base.specs.Item.{Item, made}
 use Rattle.lo_base.proofs.Solving.{at_front, made-append}
 use Rattle.lo_terms.specs.declared.term.Mode.{Mode}
@@ -35,8 +35,8 @@ use Rattle.lo_terms.specs.Emitted.{Out, ends}
 use Rattle.lo_terms.specs.Rules.{terms_of, term_at, integer_term, node, literal as literal_low, variable, operand_mode}
 use Rattle.lo_terms.specs.Lowering.{Low, low_expr, low_operands, single, own_low_of, finished, span_of, is_literal, is_literal_layer, is_written, is_written_layer, has_written, low_intension}
 use Rattle.lo_terms.proofs.LowerLemmas.{low-Int, low-Var, low-Node}
-use Rattle.lo_meaning.proofs.Solves.{num, num-Var, Before, AllBefore, before_more, all_before_more, all_before_join, Lasts, lasts_more, lasts_both, lasts_nums, Solves, solves_nil, solves_join, solves_as, Gives}
-use Rattle.lo_meaning.proofs.Given.{Valued, AllValued}
+use Rattle.lo_meaning.proofs.Solves.{num, num-Var, AllBefore, before_more, all_before_more, all_before_join, Lasts, lasts_both, lasts_nums, Solves, solves_nil, solves_join, solves_as, Gives}
+use Rattle.lo_meaning.proofs.Given.{Valued}
 use Rattle.lo_meaning.proofs.Operands.{spans_of, truth_bit, logic_is, held_length}
 use Rattle.lo_meaning.proofs.Nodes.{Input, Spanned, AreSpanned, AreWritten, HasPower, IsRaised, flat, gives_number, gives_logic}
 use Rattle.lo_meaning.proofs.Stated.{States, states_as, states_node, gives_literal, tests_literal, states_literal, gives_variable, tests_variable, states_variable}
@@ -191,13 +191,13 @@ module _ (ss : List Bounds) (a : List ℤ) (w : AreWithin ss a) where
         solves_as Fixed Fixed (λ b. (map (num b) (terms_of l.operands) ≡ vs) × (map (num b) (terms_of m.operands) ≡ us)) (λ b. map (num b) (terms_of (l.operands ++ m.operands)) ≡ vs ++ us)
         (Unit {0} × Unit {0}) (Unit {0}) n (l.items ++ m.items) (λ b f. f) (λ b f e. nums_join b l.operands m.operands ∙ ap₂ (λ (s t : List ℤ). s ++ t) e.0 e.1) (λ p. tt) (λ p. (tt, tt))
         (solves_join Fixed (λ b. map (num b) (terms_of l.operands) ≡ vs) (λ b. map (num b) (terms_of m.operands) ≡ us) (Unit {0}) (Unit {0}) n l.items m.items (lasts n le) g.solves
-            (solves_as Fixed (λ b. Fixed b × (map (num b) (terms_of l.operands) ≡ vs)) (λ b. map (num b) (terms_of m.operands) ≡ us) (λ b. map (num b) (terms_of m.operands) ≡ us) (Unit {0}) (Unit {0})
-                (n + made l.items) m.items (λ b f. f.0) (λ b f e. e) (λ p. p) (λ p. p) h.solves));
+        (solves_as Fixed (λ b. Fixed b × (map (num b) (terms_of l.operands) ≡ vs)) (λ b. map (num b) (terms_of m.operands) ≡ us) (λ b. map (num b) (terms_of m.operands) ≡ us) (Unit {0}) (Unit {0})
+        (n + made l.items) m.items (λ b f. f.0) (λ b f e. e) (λ p. p) (λ p. p) h.solves));
     before =
         subst (AllBefore (n + made (l.items ++ m.items))) (sym (terms_join l.operands m.operands))
         (all_before_join (n + made (l.items ++ m.items)) (terms_of l.operands) (terms_of m.operands)
-            (all_before_more (n + made l.items) (n + made (l.items ++ m.items)) (terms_of l.operands) (omega (arith, made-append l.items m.items)) g.before)
-            (all_before_more (n + made l.items + made m.items) (n + made (l.items ++ m.items)) (terms_of m.operands) (omega (arith, made-append l.items m.items)) h.before));
+        (all_before_more (n + made l.items) (n + made (l.items ++ m.items)) (terms_of l.operands) (omega (arith, made-append l.items m.items)) g.before)
+        (all_before_more (n + made l.items + made m.items) (n + made (l.items ++ m.items)) (terms_of m.operands) (omega (arith, made-append l.items m.items)) h.before));
     many = length-append l.operands m.operands ∙ ap₂ (λ (s t : ℕ). s + t) g.many h.many ∙ sym (length-append vs us);
   }
 
@@ -271,6 +271,7 @@ module _ (ss : List Bounds) (a : List ℤ) (w : AreWithin ss a) where
         known = λ lit. clash (is_literal e) lit (ap is_literal_layer (layer-Var v));
         written = λ set wr. clash (is_set e) set (set-Var v);
       }
+
   -- what is asked of an operand in a mode
   abbrev Asked : Mode → Expr → Bounds → Type 0
   Asked Number e b = Unit {0}
@@ -390,7 +391,7 @@ module _ (ss : List Bounds) (a : List ℤ) (w : AreWithin ss a) where
       let l = low_expr ss p.0 (operand_mode op mode k) n in
       subst (Below op mode k n (p.0 ∷ firsts ps)) (sym parts.same)
       (one_below op mode k n p.0 (firsts ps) parts.head parts.tail le (p.1 (d 0 p.0 (omega arith)) (s 0 p.0 (omega arith)) parts.head parts.head_is n le) now.0
-          (below ps parts.tail (All-tail IsShaped p.0 (firsts ps) d) (All-tail (HasSpans ss) p.0 (firsts ps) s) parts.tail_is op mode (k + 1) (n + made l.items) (omega (arith, le)) now.1))
+      (below ps parts.tail (All-tail IsShaped p.0 (firsts ps) d) (All-tail (HasSpans ss) p.0 (firsts ps) s) parts.tail_is op mode (k + 1) (n + made l.items) (omega (arith, le)) now.1))
 
   -- the operands of a stated `and`
   ones_as : (v : ℤ) (rest : Bool) → ((v ≡ pos 1) × (rest ≡ true) → (is_true v && rest) ≡ true) × ((is_true v && rest) ≡ true → (v ≡ pos 1) × (rest ≡ true))
@@ -410,16 +411,17 @@ module _ (ss : List Bounds) (a : List ℤ) (w : AreWithin ss a) where
       let m = low_operands ss And Stated (k + 1) (n + made l.items) (firsts ps) in
       solves_as Fixed Fixed (λ b. Unit {0} × Unit {0}) (λ b. Unit {0}) ((v ≡ pos 1) × (rest ≡ true)) ((is_true v && rest) ≡ true) n (l.items ++ m.items) (λ b f. f) (λ b f e. tt) (ones_as v rest).0 (ones_as v rest).1
       (solves_join Fixed (λ b. Unit {0}) (λ b. Unit {0}) (v ≡ pos 1) (rest ≡ true) n l.items m.items (lasts n le) (says.states plain.0 ts.0)
-          (solves_as Fixed (λ b. Fixed b × Unit {0}) (λ b. Unit {0}) (λ b. Unit {0}) (rest ≡ true) (rest ≡ true) (n + made l.items) m.items (λ b f. f.0) (λ b f e. e) (λ q. q) (λ q. q) more))
+      (solves_as Fixed (λ b. Fixed b × Unit {0}) (λ b. Unit {0}) (λ b. Unit {0}) (rest ≡ true) (rest ≡ true) (n + made l.items) m.items (λ b f. f.0) (λ b f e. e) (λ q. q) (λ q. q) more))
 
   -- the values of the operands lie within their bounds
   held_below : (es : List Expr) (bs : List Bounds) → All IsShaped es → All (HasSpans ss) es → all_ok (map (bounds ss) es) ≡ Ok bs → AreHeld bs (map (val a) es)
   held_below [] bs d s h = subst (λ (cs : List Bounds). AreHeld cs []) (no_bounds bs h) tt
   held_below (e ∷ es) bs d s h =
       let parts = parts_of (bounds ss e) (map (bounds ss) es) bs h in
-      subst (λ (cs : List Bounds). AreHeld cs (val a e ∷ map (val a) es)) (sym parts.same)
-      ((bounds-sound ss a w e (d 0 e (omega arith)) (s 0 e (omega arith)) parts.head parts.head_is).0,
-          held_below es parts.tail (All-tail IsShaped e es d) (All-tail (HasSpans ss) e es s) parts.tail_is)
+      subst (λ (cs : List Bounds). AreHeld cs (val a e ∷ map (val a) es)) (sym parts.same) (
+        (bounds-sound ss a w e (d 0 e (omega arith)) (s 0 e (omega arith)) parts.head parts.head_is).0,
+        held_below es parts.tail (All-tail IsShaped e es d) (All-tail (HasSpans ss) e es s) parts.tail_is,
+      )
 
   -- what is offered
 
@@ -692,8 +694,8 @@ module _ (ss : List Bounds) (a : List ℤ) (w : AreWithin ss a) where
         let last : Bool → Low = λ t. own_low_of t op mode b (has_written es) (n + made l.items) l.operands in
         sym
         (low-Node ss e op es mode n refl
-            ∙ ap (λ (u : Bounds). finished op mode u (has_written es) n l) (span_is e b is)
-            ∙ ap (λ (t : Bool). behind l (last t)) plain)
+        ∙ ap (λ (u : Bounds). finished op mode u (has_written es) n l) (span_is e b is)
+        ∙ ap (λ (t : Bool). behind l (last t)) plain)
       where
         behind : Low → Low → Low
         behind l m = record { items = l.items ++ m.items; operands = m.operands }
@@ -710,7 +712,7 @@ module _ (ss : List Bounds) (a : List ℤ) (w : AreWithin ss a) where
         let c = under Number n in
         gained_as plain Number n
         (gained_node n (offers es) c v b (made_of Number n) le l.gained
-            (gives_number (Behind c.operands (offers es)) (n + made c.items) (lasts_behind n (offers es) c le l.gained) op b (has_written es) c.operands xs members (input Number n le l) plain))
+        (gives_number (Behind c.operands (offers es)) (n + made c.items) (lasts_behind n (offers es) c le l.gained) op b (has_written es) c.operands xs members (input Number n le l) plain))
 
     node_tests : is_set_operator op ≡ false → is_truth b ≡ true → (n : ℕ) → length ss ≤ n → Gained n (offered e) (low_expr ss e Logic n)
     node_tests plain t n le =
@@ -718,7 +720,7 @@ module _ (ss : List Bounds) (a : List ℤ) (w : AreWithin ss a) where
         let c = under Logic n in
         gained_as plain Logic n
         (gained_node n (offers es) c v b (made_of Logic n) le l.gained
-            (gives_logic (Behind c.operands (offers es)) (n + made c.items) (lasts_behind n (offers es) c le l.gained) op b (has_written es) c.operands xs members (input Logic n le l) plain (bit t)))
+        (gives_logic (Behind c.operands (offers es)) (n + made c.items) (lasts_behind n (offers es) c le l.gained) op b (has_written es) c.operands xs members (input Logic n le l) plain (bit t)))
 
     -- what states the value of the node states the value of the expression
     stated_value : (n : ℕ) → States Fixed n (v ≡ pos 1) (low_expr ss e Stated n).items → States Fixed n (val a e ≡ pos 1) (low_expr ss e Stated n).items
@@ -730,8 +732,8 @@ module _ (ss : List Bounds) (a : List ℤ) (w : AreWithin ss a) where
         let c = under Stated n in
         stated_value n
         (subst (λ (m : Low). States Fixed n (v ≡ pos 1) m.items) (low_is plain Stated n)
-            (stated_behind n (offers es) c (v ≡ pos 1) (made_of Stated n).items le l.gained
-                (states_node (Behind c.operands (offers es)) (n + made c.items) (lasts_behind n (offers es) c le l.gained) b (has_written es) c.operands xs members op (input Stated n le l) plain other (bit t))))
+        (stated_behind n (offers es) c (v ≡ pos 1) (made_of Stated n).items le l.gained
+        (states_node (Behind c.operands (offers es)) (n + made c.items) (lasts_behind n (offers es) c le l.gained) b (has_written es) c.operands xs members op (input Stated n le l) plain other (bit t))))
 
     node_says : is_set_operator op ≡ false → (is_truth b ≡ true → (n : ℕ) → length ss ≤ n → States Fixed n (val a e ≡ pos 1) (low_expr ss e Stated n).items) → (n : ℕ) → length ss ≤ n → Says e b n
     node_says plain stated n le = record {
@@ -781,9 +783,9 @@ module _ (ss : List Bounds) (a : List ℤ) (w : AreWithin ss a) where
           let o = own And ps d s b is in
           stated_value And ps d s b is m
           (subst (λ (l : Low). States Fixed m (truth_of all ≡ pos 1) l.items) (low_is And ps d s b is refl Stated m)
-              (subst (States Fixed m (truth_of all ≡ pos 1)) (sym (append-nil c.items))
-                  (states_as Fixed m (all ≡ true) (truth_of all ≡ pos 1) c.items (λ h. ap truth_of h) (λ h. truth_one all h)
-                      (stated_below ps o.below (shapes And ps d s b is) (variables And ps d s b is) o.is (shape And ps d s b is).1 (logic_is o.below b o.own) 0 m more))))
+          (subst (States Fixed m (truth_of all ≡ pos 1)) (sym (append-nil c.items))
+          (states_as Fixed m (all ≡ true) (truth_of all ≡ pos 1) c.items (λ h. ap truth_of h) (λ h. truth_one all h)
+          (stated_below ps o.below (shapes And ps d s b is) (variables And ps d s b is) o.is (shape And ps d s b is).1 (logic_is o.below b o.own) 0 m more))))
 
   claim-Node : (op : Op) (ps : Pairs) → Claim (node_expr op (firsts ps))
   claim-Node op ps d s b is n le = by (is_set_operator op) refl (is_and op) refl

@@ -1,5 +1,5 @@
 -- What each call that defines a new variable gives it.
-use Rattle.std.proofs.Common.{◌≡◌, ℕ, ℤ, pos, ◌*ℤ◌, Bool, true, false, not, List, [], ◌∷◌, ◌++◌, map, refl, ap, ap₂, sym, ◌∙◌}
+use Rattle.std.proofs.Common.{◌≡◌, ℕ, ℤ, pos, ◌*ℤ◌, Bool, not, List, [], ◌∷◌, ◌++◌, map, refl, ap, ap₂, sym, ◌∙◌}
 use Rattle.std.specs.Prelude.{nat_abs, int_le, int_lt}
 use Rattle.std.specs.List.{list_any, list_all}
 use Rattle.std.specs.Ordering.{int_eq}
@@ -7,16 +7,14 @@ use Rattle.std.proofs.lemmas.List.{map-append}
 use Rattle.xf_num.specs.Span.{Bounds, IsWithin}
 use Rattle.fz_model.specs.Calls.{call_of}
 use Rattle.fz_model.specs.declared.builtin.Builtin.{Builtin}
-use Rattle.fz_model.specs.declared.builtin.Builtin.TheVariants.{IntLinEq, IntEqReif, IntNeReif, IntLeReif, IntLtReif, IntAbs, IntTimes, Bool2Int, BoolEqReif, BoolLeReif, BoolNot, BoolXor, ArrayBoolAnd, ArrayBoolOr, SetInReif, ArrayIntMinimum, ArrayIntMaximum, IntDiv, IntMod, ArrayVarIntElement}
-use Rattle.fz_model.specs.declared.model.Arg.{Arg}
+use Rattle.fz_model.specs.declared.builtin.Builtin.TheVariants.{IntLinEq, IntEqReif, IntNeReif, IntLeReif, IntLtReif, IntAbs, IntTimes, Bool2Int, BoolEqReif, BoolLeReif, BoolNot, BoolXor, ArrayBoolAnd, ArrayBoolOr, SetInReif}
 use Rattle.fz_model.specs.declared.model.Arg.TheVariants as arg
-use Rattle.fz_model.specs.Fixing.{IsBit}
 use Rattle.fz_model.specs.Meaning.{at, truth, number, numbers, has, dot, is_one, CallHolds}
 use Rattle.fz_model.proofs.Calls.{number-Int, numbers-List, has-Set, int_times_says, int_times_met, int_abs_says, int_abs_met, bool2int_says, bool2int_met, bool_not_says, bool_not_met, int_lt_reif_says, int_lt_reif_met, int_le_reif_says, int_le_reif_met, int_eq_reif_says, int_eq_reif_met, int_ne_reif_says, int_ne_reif_met, bool_eq_reif_says, bool_eq_reif_met, bool_le_reif_says, bool_le_reif_met, bool_xor_says, bool_xor_met, set_in_reif_says, set_in_reif_met, array_bool_and_says, array_bool_and_met, array_bool_or_says, array_bool_or_met, int_lin_eq_says, int_lin_eq_met}
 use Rattle.lo_terms.specs.declared.term.Term.{Term}
 use Rattle.lo_terms.specs.declared.term.Term.TheVariants.{Var}
-use Rattle.lo_terms.specs.Emitted.{Out, arg_of, list_of, constants_of, integer_of_one, integer_of_two, integer_of_sum, truth_of_one, truth_of_two, truth_of_list, truth_of_set, truth_of_number}
-use Rattle.lo_meaning.proofs.Solves.{num, num-Var, Lasts, Gives, Defines, gives_integer, gives_boolean}
+use Rattle.lo_terms.specs.Emitted.{arg_of, list_of, constants_of, integer_of_one, integer_of_two, integer_of_sum, truth_of_one, truth_of_two, truth_of_list, truth_of_set, truth_of_number}
+use Rattle.lo_meaning.proofs.Solves.{num, num-Var, Lasts, Gives, gives_integer, gives_boolean}
 use Rattle.lo_meaning.proofs.Tests.{other_truth, truths_differ}
 
 -- in F the term stands for this number
@@ -72,8 +70,8 @@ module _ (F : List ℤ → Type 0) (n : ℕ) (lasts : Lasts n F) where
   gives_sum w cs xs vs c v hxs only solved within =
       let values : (b : List ℤ) (f : F b) → dot (numbers b (constants_of cs)) (numbers b (list_of (xs ++ Var n ∷ []))) ≡ dot cs (vs ++ (at b n ∷ [])) =
       λ b f.
-          ap₂ dot (numbers_of_constants b cs)
-          (numbers_of_list b (xs ++ Var n ∷ []) ∙ map-append (num b) xs (Var n ∷ []) ∙ ap₂ (λ (s t : List ℤ). s ++ t) (hxs b f) (ap (λ (z : ℤ). z ∷ []) (num-Var b n))) in
+      ap₂ dot (numbers_of_constants b cs)
+      (numbers_of_list b (xs ++ Var n ∷ []) ∙ map-append (num b) xs (Var n ∷ []) ∙ ap₂ (λ (s t : List ℤ). s ++ t) (hxs b f) (ap (λ (z : ℤ). z ∷ []) (num-Var b n))) in
       gives_integer F n v w.lo w.hi (call_of IntLinEq (constants_of cs ∷ list_of (xs ++ Var n ∷ []) ∷ arg.Int c ∷ [])) lasts within.from within.to (record {
         says = λ b f h. only (at b n) (sym (values b f) ∙ int_lin_eq_says b (constants_of cs) (list_of (xs ++ Var n ∷ [])) (arg.Int c) h ∙ number-Int b c);
         met = λ b f e.

@@ -1,20 +1,17 @@
 -- The law: what states an expression means that its value is 1.
-use Rattle.std.proofs.Common.{◌≡◌, ℕ, zero, suc, ◌+◌, ◌<◌, ◌≤◌, ℤ, pos, Bool, true, List, [], ◌∷◌, ◌++◌, length, map, take, drop, refl, ap, ap₂, sym, ◌∙◌, subst, arith, All, Result, Ok, Err, length-take-le}
+use Rattle.std.proofs.Common.{◌≡◌, ℕ, zero, suc, ◌<◌, ℤ, List, [], ◌∷◌, ◌++◌, length, map, take, refl, ap, ap₂, sym, ◌∙◌, subst, arith, All}
 use Rattle.std.proofs.lemmas.List.Elements.{All-tail}
-use Rattle.xf_num.specs.Span.{Bounds}
 use Rattle.fz_model.specs.Meaning.{at as value_at}
 use Rattle.xs_model.specs.declared.expr.Op.{Op}
-use Rattle.xs_model.specs.declared.expr.Expr.{Expr, Int, Var, Node, roll-Expr, map-Expr, ind-Expr}
+use Rattle.xs_model.specs.declared.expr.Expr.{Expr, Var, Node, roll-Expr, map-Expr, ind-Expr}
 use Rattle.xs_model.specs.declared.expr.Expr.TheVariants.{rolls-Int, rolls-Var, rolls-Node}
 use Rattle.xs_model.specs.declared.expr.Expr.TheOpen.{Expr-F}
 use Rattle.xs_model.specs.Value.{Worth, at, val, worth, number, node_worth}
-use Rattle.xs_expr.specs.Bounds.{bounds, HasVariable, HasVariables, HasSpans}
-use Rattle.xs_expr.specs.Laws.{AreWithin}
-use Rattle.xs_expr.specs.Shape.{IsShaped, is_set}
+use Rattle.xs_expr.specs.Bounds.{HasVariable, HasVariables}
 use Rattle.xs_expr.proofs.Every.{every-operands, every-var}
 use Rattle.xs_expr.proofs.Layers.{worth-Int, worth-Var, worth-Node}
 use Rattle.lo_base.proofs.Solving.{at_front}
-use Rattle.lo_meaning.specs.Laws.{BeginsWithin, IntensionMeans}
+use Rattle.lo_meaning.specs.Laws.{IntensionMeans}
 use Rattle.lo_meaning.proofs.Expressions.{stated}
 
 -- an expression is worth the same where its variables are

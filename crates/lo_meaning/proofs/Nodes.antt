@@ -1,33 +1,32 @@
 -- What each operator is lowered to gives its value, as a number and as a truth value.
-use Rattle.std.proofs.Common.{◌≡◌, ◌≢◌, ◌⊎◌, inl, inr, ℕ, zero, suc, ◌+◌, ◌<◌, ◌≤◌, ◌==◌, ℤ, pos, neg_ℤ, ◌+ℤ◌, ◌-ℤ◌, ◌*ℤ◌, ◌≤ℤ◌, Bool, true, false, not, List, [], ◌∷◌, length, map, drop, refl, ap, sym, ◌∙◌, subst, arith, true≢false, Result, Ok, Err}
+use Rattle.std.proofs.Common.{◌≡◌, ◌≢◌, inl, inr, ℕ, suc, ◌+◌, ◌≤◌, ℤ, pos, ◌-ℤ◌, ◌*ℤ◌, ◌≤ℤ◌, Bool, true, false, not, List, [], ◌∷◌, length, map, drop, refl, ap, sym, ◌∙◌, subst, arith, true≢false, Ok}
 use Rattle.std.specs.Prelude.{int_le, int_lt, if◌then◌else◌}
 use Rattle.std.specs.List.{list_any, list_all}
 use Rattle.std.specs.Ordering.{int_eq}
 use Rattle.std.proofs.lemmas.Int.{ints, clamps}
-use Rattle.xf_num.specs.Span.{Bounds, IsWithin, sub_ends, mul_ends, abs_ends, div_ends, rem_ends, join_ends, pow_ends}
+use Rattle.xf_num.specs.Span.{Bounds, IsWithin, sub_ends, abs_ends, div_ends, rem_ends, join_ends, pow_ends}
 use Rattle.xf_num.proofs.Images.{sub-IsHull}
-use Rattle.xf_text.specs.declared.fault.Kind.TheVariants.{Logic, Division, Range}
+use Rattle.xf_text.specs.declared.fault.Kind.TheVariants.{Logic, Division}
 use Rattle.fz_model.specs.declared.builtin.Builtin.TheVariants.{Bool2Int}
 use Rattle.fz_model.specs.Fixing.{IsBit}
 use Rattle.fz_model.specs.Meaning.{truth, is_one}
 use Rattle.xs_model.specs.declared.expr.Op.{Op}
 use Rattle.xs_model.specs.declared.expr.Op.TheVariants.{Neg, Abs, Sqr, Add, Mul, Sub, Dist, Div, Mod, Pow, Min, Max, Lt, Le, Gt, Ge, Ne, Eq, Set, In, NotIn, Not, And, Or, Xor, Iff, Imp, If}
 use Rattle.xs_model.specs.Value.{at, apply, is_true, is_odd, all_equal, product_from, exponent_of}
-use Rattle.xs_expr.specs.Bounds.{exactly, truths, is_truth, is_divisible, limited, operand, node_bounds}
+use Rattle.xs_expr.specs.Bounds.{truths, is_truth, is_divisible, limited, operand, node_bounds}
 use Rattle.xs_expr.specs.Shape.{IsCount, IsExponent, is_set_operator}
-use Rattle.xs_expr.proofs.Within.{IsHeld, AreHeld, AreSmall, IsSmall, guarded, limited-is, operand-held, ordered}
+use Rattle.xs_expr.proofs.Within.{IsHeld, AreHeld, AreSmall, guarded, limited-is, operand-held, ordered}
 use Rattle.lo_base.specs.Item.{made}
 use Rattle.lo_terms.specs.declared.term.Operand.{Operand}
-use Rattle.lo_terms.specs.declared.term.Term.{Term}
 use Rattle.lo_terms.specs.declared.term.Term.TheVariants.{Int}
-use Rattle.lo_terms.specs.Emitted.{Out, kept, integer_of_one, after, truth_of_number}
-use Rattle.lo_terms.specs.Rules.{terms_of, operand_at, term_at, integer_term, number_node, truth_node, gives_truth, as_number, as_truth, product, powers, steps_to, counted, tested}
-use Rattle.lo_meaning.proofs.Solves.{num, Before, AllBefore, Lasts, Gives, gives_after}
+use Rattle.lo_terms.specs.Emitted.{Out, kept, integer_of_one, truth_of_number}
+use Rattle.lo_terms.specs.Rules.{terms_of, operand_at, term_at, integer_term, number_node, truth_node, gives_truth, as_number, as_truth, product, counted, tested}
+use Rattle.lo_meaning.proofs.Solves.{AllBefore, Lasts, Gives, gives_after}
 use Rattle.lo_meaning.proofs.Given.{Valued, AllValued, gives_abs, gives_times, gives_counted, gives_lt, gives_le, gives_ne, gives_iff, gives_imp, gives_not, gives_tested, gives_all, gives_any}
 use Rattle.lo_meaning.proofs.Numbers.{With, lasts_with, given_with, gives_neg, gives_total, gives_difference, gives_distance, gives_quotient, gives_remainder, gives_least, gives_greatest, gives_choice, gives_product}
-use Rattle.lo_meaning.proofs.Operands.{spans_of, valued_at, before_at, span_at, kept_held, small_limited, truth_is, truth_bit, all_bits, logic_is, bit_at, valued_head, valued_tail}
+use Rattle.lo_meaning.proofs.Operands.{spans_of, valued_at, before_at, span_at, kept_held, small_limited, truth_is, all_bits, logic_is, bit_at, valued_head, valued_tail}
 use Rattle.lo_meaning.proofs.Powers.{gives_power}
-use Rattle.lo_meaning.proofs.Tests.{both_true, le_is, bit_is, bit_between, all_ones, any_ones, truths_within}
+use Rattle.lo_meaning.proofs.Tests.{both_true, le_is, bit_is, all_ones, any_ones, truths_within}
 use Rattle.lo_meaning.proofs.Truths.{gives_as, gives_equal, gives_member, gives_no_member, gives_parity_of}
 
 -- what the operands stand for: those of a membership are the first operand and the members
@@ -234,7 +233,7 @@ module _ (F : List ℤ → Type 0) (n : ℕ) (lasts : Lasts n F) (op : Op) (w : 
       let k = n + made c.items in
       gives_as F n v (apply op xs members) (counted n c) (sym d.is)
       (gives_after F n v v c (λ j t. integer_of_one j truths Bool2Int t) lasts d.gives
-          (gives_counted (With F c.term v) k (lasts_with F n k c.term v (omega arith) lasts d.gives.before) truths c.term v (given_with F c.term v) (record { from = (truths_within d.test).0; to = (truths_within d.test).1 })))
+      (gives_counted (With F c.term v) k (lasts_with F n k c.term v (omega arith) lasts d.gives.before) truths c.term v (given_with F c.term v) (record { from = (truths_within d.test).0; to = (truths_within d.test).1 })))
   count_by false e = number_gives F n lasts op w written os xs members i e s
 
   pub gives_number : Gives F n (apply op xs members) (as_number op w written n os)
@@ -252,7 +251,7 @@ module _ (F : List ℤ → Type 0) (n : ℕ) (lasts : Lasts n F) (op : Op) (w : 
       let k = n + made c.items in
       gives_as F n (truth (is_true v)) v (tested n c) (sym is)
       (gives_after F n v (truth (is_true v)) c truth_of_number lasts first
-          (gives_tested (With F c.term v) k (lasts_with F n k c.term v (omega arith) lasts first.before) c.term (is_true v) (λ b f. given_with F c.term v b f ∙ is)))
+      (gives_tested (With F c.term v) k (lasts_with F n k c.term v (omega arith) lasts first.before) c.term (is_true v) (λ b f. given_with F c.term v b f ∙ is)))
 
   pub gives_logic : IsBit (apply op xs members) → Gives F n (apply op xs members) (as_truth op w written n os)
   gives_logic bit = test_by bit (gives_truth op) refl

@@ -1,33 +1,29 @@
 -- What the operators that give numbers are lowered to gives their values.
-use Rattle.std.proofs.Common.{◌≡◌, ◌≢◌, ◌⊎◌, inl, inr, ℕ, zero, suc, ◌+◌, ◌≤◌, ℤ, pos, negsuc, neg_ℤ, ◌+ℤ◌, ◌-ℤ◌, ◌*ℤ◌, ◌≤ℤ◌, Bool, true, false, not, ◌&&◌, List, [], ◌∷◌, ◌++◌, length, map, fold, refl, ap, ap₂, sym, ◌∙◌, subst, arith, true≢false, get_or, Result, Ok, Err}
-use Rattle.std.specs.Prelude.{nat_abs, int_le, int_lt, int_div, int_rem, if◌then◌else◌, ◌-◌}
-use Rattle.std.specs.List.{list_any, list_all}
-use Rattle.std.specs.Int.{int_min, int_max}
+use Rattle.std.proofs.Common.{◌≡◌, ◌≢◌, ℕ, ◌+◌, ◌≤◌, ℤ, pos, neg_ℤ, ◌-ℤ◌, ◌*ℤ◌, ◌≤ℤ◌, Bool, true, false, not, List, [], ◌∷◌, length, refl, ap, ap₂, sym, ◌∙◌, subst, arith, Result, Ok, Err}
+use Rattle.std.specs.Prelude.{int_div, int_rem, if◌then◌else◌}
 use Rattle.std.specs.Ordering.{int_eq}
-use Rattle.std.proofs.lemmas.Int.{ints, clamps}
-use Rattle.xf_num.specs.Span.{Bounds, IsWithin, sub_ends, mul_ends, abs_ends}
+use Rattle.std.proofs.lemmas.Int.{ints}
+use Rattle.xf_num.specs.Span.{Bounds, IsWithin, sub_ends, mul_ends}
 use Rattle.xf_num.proofs.Hulls.{mul-IsHull}
-use Rattle.xf_num.proofs.Images.{sub-IsHull}
 use Rattle.xf_text.specs.declared.fault.Kind.{Kind}
 use Rattle.fz_model.specs.Calls.{call_of}
 use Rattle.fz_model.specs.declared.builtin.Builtin.TheVariants.{IntAbs, IntTimes, IntDiv, IntMod, ArrayIntMinimum, ArrayIntMaximum, ArrayVarIntElement, Bool2Int}
 use Rattle.fz_model.specs.declared.model.Arg.TheVariants as arg
-use Rattle.fz_model.specs.Fixing.{IsBit}
-use Rattle.fz_model.specs.Meaning.{at as value_at, truth, number, numbers, dot, is_zero, is_least, is_greatest, is_element, is_quotient, is_remainder, CallHolds}
+use Rattle.fz_model.specs.Meaning.{truth, numbers, is_zero, is_least, is_greatest, is_element, is_quotient, is_remainder}
 use Rattle.fz_model.proofs.Calls.{equal, equal_met, unequal_met, int_div_says, int_div_met, int_mod_says, int_mod_met, array_int_minimum_says, array_int_minimum_met, array_int_maximum_says, array_int_maximum_met, array_var_int_element_says, array_var_int_element_met}
-use Rattle.xs_model.specs.Value.{at, is_true, absolute, sum_of, product_from, least_of, greatest_of, chosen}
-use Rattle.xs_expr.specs.Bounds.{limited, and_then, folded, folded_from, operand, exactly, truths}
+use Rattle.xs_model.specs.Value.{absolute, sum_of, product_from, least_of, greatest_of}
+use Rattle.xs_expr.specs.Bounds.{limited, folded_from, truths}
 use Rattle.xs_expr.proofs.Within.{IsHeld, AreHeld, limited-held, limited-is, ordered}
 use Rattle.lo_base.specs.Item.{made}
 use Rattle.lo_terms.specs.declared.term.Operand.{Operand}
 use Rattle.lo_terms.specs.declared.term.Term.{Term}
 use Rattle.lo_terms.specs.declared.term.Term.TheVariants.{Var}
-use Rattle.lo_terms.specs.Emitted.{Out, kept, ends, arg_of, list_of, integer_of_one, integer_of_two, integer_of_list, integer_of_sum, integer_of_place, after}
+use Rattle.lo_terms.specs.Emitted.{kept, arg_of, list_of, integer_of_one, integer_of_two, integer_of_list, integer_of_sum, integer_of_place, after}
 use Rattle.lo_terms.specs.Rules.{terms_of, minus_one, sum_coefficients, difference, distance, product, choice}
 use Rattle.lo_meaning.proofs.Solves.{num, num-Var, Before, Lasts, lasts_more, lasts_both, lasts_num, Gives, gives_integer, gives_standing, gives_after}
 use Rattle.lo_meaning.proofs.Given.{Valued, AllValued, numbers_of_list, gives_abs, gives_counted, gives_times, gives_sum}
-use Rattle.lo_meaning.proofs.Operands.{spans_of, kept_held, kept_is, valued_head, valued_tail}
-use Rattle.lo_meaning.proofs.Tests.{dot_ones, least_unique, least_of_is, greatest_unique, greatest_of_is, both_met, both_true, le_met, le_is, truths_within}
+use Rattle.lo_meaning.proofs.Operands.{spans_of, kept_is, valued_head, valued_tail}
+use Rattle.lo_meaning.proofs.Tests.{dot_ones, least_unique, least_of_is, greatest_unique, greatest_of_is, both_met, both_true, truths_within}
 
 -- F, and what a term is worth
 abbrev pub With : (List ℤ → Type 0) → Term → ℤ → List ℤ → Type 0
@@ -129,8 +125,8 @@ module _ (F : List ℤ → Type 0) (n : ℕ) (lasts : Lasts n F) where
       let r : ℤ = if t then u else v in
       let same : (b : List ℤ) (f : F b) (z : ℤ) → is_element (num b k) (numbers b (list_of (x ∷ y ∷ []))) z ≡ int_eq r z =
       λ b f z.
-          ap₂ (λ (i : ℤ) (zs : List ℤ). is_element i zs z) (hk b f) (numbers_of_list b (x ∷ y ∷ []) ∙ ap₂ (λ (p q : ℤ). p ∷ q ∷ []) (hx b f) (hy b f))
-          ∙ element t u v z in
+      ap₂ (λ (i : ℤ) (zs : List ℤ). is_element i zs z) (hk b f) (numbers_of_list b (x ∷ y ∷ []) ∙ ap₂ (λ (p q : ℤ). p ∷ q ∷ []) (hx b f) (hy b f))
+      ∙ element t u v z in
       gives_integer F n r w.lo w.hi (call_of ArrayVarIntElement (arg_of k ∷ list_of (x ∷ y ∷ []) ∷ arg.Var n ∷ [])) lasts within.from within.to (record {
         says = λ b f h.
             sym (num-Var b n)
@@ -161,7 +157,7 @@ gives_choice F n lasts w g x y t u v hg hx hy within =
     let G : List ℤ → Type 0 = With F place.term (pos 2 -ℤ truth t) in
     gives_after F n (pos 2 -ℤ truth t) (if t then u else v) place (λ i p. integer_of_place i w p (x ∷ y ∷ [])) lasts both
     (gives_place G j (lasts_with F n j place.term (pos 2 -ℤ truth t) (omega arith) lasts both.before) w place.term x y t u v
-        (given_with F place.term (pos 2 -ℤ truth t)) (valued_with F place.term (pos 2 -ℤ truth t) x u hx) (valued_with F place.term (pos 2 -ℤ truth t) y v hy) within)
+    (given_with F place.term (pos 2 -ℤ truth t)) (valued_with F place.term (pos 2 -ℤ truth t) x u hx) (valued_with F place.term (pos 2 -ℤ truth t) y v hy) within)
 
 -- one step of bounds that are taken together
 folded_step : (f : Bounds → Bounds → Bounds) (c d b : Bounds) (bs : List Bounds) → folded_from f (Ok c) (d ∷ bs) ≡ Ok b → (e : Bounds) × (limited (f c d) ≡ Ok e) × (folded_from f (Ok e) bs ≡ Ok b)
@@ -194,5 +190,5 @@ gives_product F n lasts so_far (o ∷ os) acc (v ∷ vs) b before hx hxs held ma
     let F' : List ℤ → Type 0 = With F c.term (acc *ℤ v) in
     gives_after F n (acc *ℤ v) (product_from (acc *ℤ v) vs) c (λ k t. product k (record { term = t; span = w }) os) lasts first
     (gives_product F' (n + made c.items) (lasts_with F n (n + made c.items) c.term (acc *ℤ v) (omega arith) lasts first.before) (record { term = c.term; span = w }) os (acc *ℤ v) vs b first.before
-        (given_with F c.term (acc *ℤ v)) (all_valued_with F c.term (acc *ℤ v) (terms_of os) vs (valued_tail F o.term (terms_of os) v vs hxs)) here many.1
-        (subst (λ (d : Bounds). folded_from mul_ends (Ok d) (spans_of os) ≡ Ok b) same step.2))
+    (given_with F c.term (acc *ℤ v)) (all_valued_with F c.term (acc *ℤ v) (terms_of os) vs (valued_tail F o.term (terms_of os) v vs hxs)) here many.1
+    (subst (λ (d : Bounds). folded_from mul_ends (Ok d) (spans_of os) ≡ Ok b) same step.2))

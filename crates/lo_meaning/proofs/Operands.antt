@@ -1,5 +1,5 @@
 -- Operands and what they are worth, place by place.
-use Rattle.std.proofs.Common.{◌≡◌, ◌≢◌, ℕ, zero, suc, ◌+◌, ◌≤◌, ℤ, pos, ◌≤ℤ◌, Bool, true, false, List, [], ◌∷◌, ◌++◌, length, map, refl, ap, ap₂, sym, ◌∙◌, subst, inl, inr, arith, true≢false, neg_ℤ, if◌then◌else◌, Result, Ok, Err}
+use Rattle.std.proofs.Common.{◌≡◌, ℕ, zero, suc, ℤ, pos, Bool, true, false, List, [], ◌∷◌, length, map, refl, ap, sym, ◌∙◌, subst, inl, arith, true≢false, neg_ℤ, if◌then◌else◌, Result, Ok, Err}
 use Rattle.std.proofs.lemmas.Int.{ints}
 use Rattle.std.specs.List.{list_all}
 use Rattle.xf_num.specs.Span.{Bounds, IsWithin}
@@ -8,12 +8,11 @@ use Rattle.xf_text.specs.declared.fault.Kind.TheVariants.{Logic, Range}
 use Rattle.fz_model.specs.Fixing.{IsBit}
 use Rattle.fz_model.specs.Meaning.{truth}
 use Rattle.xs_model.specs.Value.{at, is_true}
-use Rattle.xs_expr.specs.Bounds.{exactly, is_truth, is_divisible, is_within_limit, is_small, limited, logic, operand, truths}
+use Rattle.xs_expr.specs.Bounds.{is_truth, is_within_limit, is_small, limited, logic, operand, truths}
 use Rattle.xs_model.specs.Sound.{magnitudes}
-use Rattle.xs_expr.proofs.Within.{IsHeld, AreHeld, AreSmall, IsSmall, guarded, limited-is, operand-held}
+use Rattle.xs_expr.proofs.Within.{AreHeld, AreSmall, IsSmall, guarded, limited-is}
 use Rattle.lo_terms.specs.declared.term.Operand.{Operand}
 use Rattle.lo_terms.specs.declared.term.Term.{Term}
-use Rattle.lo_terms.specs.declared.term.Term.TheVariants.{Int}
 use Rattle.lo_terms.specs.Emitted.{ends, kept}
 use Rattle.lo_terms.specs.Rules.{terms_of, operand_at, term_at}
 use Rattle.lo_meaning.proofs.Solves.{num, num-Int, Before, AllBefore}

@@ -1,6 +1,6 @@
 -- The steps of a power.
-use Rattle.std.proofs.Common.{◌≡◌, ℕ, zero, suc, ◌+◌, ◌*◌, ◌^◌, ◌%◌, ◌<◌, ◌≤◌, ◌==◌, max, ℤ, pos, negsuc, neg_ℤ, ◌*ℤ◌, ◌≤ℤ◌, ◌⊎◌, inl, inr, Bool, true, false, List, [], ◌∷◌, refl, ap, sym, ◌∙◌, subst, arith, true≢false, Result, Ok, Err}
-use Rattle.std.specs.Prelude.{int_le, nat_abs, unsigned_abs, if◌then◌else◌}
+use Rattle.std.proofs.Common.{◌≡◌, ℕ, zero, suc, ◌+◌, ◌*◌, ◌^◌, ◌%◌, ◌<◌, ◌≤◌, ◌==◌, ℤ, pos, negsuc, neg_ℤ, ◌≤ℤ◌, ◌⊎◌, inl, inr, Bool, true, false, List, refl, ap, sym, ◌∙◌, subst, arith, true≢false, Ok}
+use Rattle.std.specs.Prelude.{int_le, unsigned_abs, if◌then◌else◌}
 use Rattle.std.proofs.lemmas.Int.{ints, clamps, unsigned_abs-mul}
 use Rattle.std.proofs.Math.Nat.{pow-zero, pow-suc, pow-le-pow_left, pow-le-pow_right, mul-zero}
 use Rattle.std.specs.Int.{int_max}
@@ -46,7 +46,7 @@ gives_powers F n lasts w x so_far u i j (suc left) t ij it within small before h
     let k = n + made c.items in
     gives_after F n (power u (suc i)) (power u t) c (λ m y. powers m w x y (j + 1) left) lasts first
     (gives_powers (With F c.term (power u (suc i))) k (lasts_with F n k c.term (power u (suc i)) (omega arith) lasts first.before) w x c.term u (suc i) (j + 1) left t (omega arith) (omega arith) within small first.before
-        (valued_with F c.term (power u (suc i)) x u hx) (given_with F c.term (power u (suc i))))
+    (valued_with F c.term (power u (suc i)) x u hx) (given_with F c.term (power u (suc i))))
 
 -- the size of a power
 abs_power : (x : ℤ) (k : ℕ) → unsigned_abs (int_pow x k) ≡ unsigned_abs x ^ k
@@ -153,4 +153,4 @@ gives_power F n lasts base e u (pos (suc k)) w before hx h is held own =
     let steps : k ≡ steps_to e = sym (steps_are k h) ∙ ap steps_to (sym is) in
     subst (λ (left : ℕ). Gives F n (power u (suc k)) (powers n base.span base.term base.term 2 left)) steps
     (gives_powers F n lasts base.span base.term base.term u 1 2 k (suc k) (omega arith) (omega arith) held.within
-        (powers_limited base.span (suc k) (ordered base.span u held.within) (limited-is (pow_ends base.span (suc k)) w own).1) before hx (λ b f. hx b f ∙ omega (arith, ints)))
+    (powers_limited base.span (suc k) (ordered base.span u held.within) (limited-is (pow_ends base.span (suc k)) w own).1) before hx (λ b f. hx b f ∙ omega (arith, ints)))

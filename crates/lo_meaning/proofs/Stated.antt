@@ -1,37 +1,36 @@
 -- What each operator is lowered to states that its value is 1, and what literals and variables are lowered to.
-use Rattle.std.proofs.Common.{◌≡◌, ◌≢◌, ◌⊎◌, inl, inr, ℕ, zero, suc, ◌+◌, ◌<◌, ◌≤◌, ℤ, pos, negsuc, ◌-ℤ◌, ◌≤ℤ◌, Bool, true, false, not, ◌&&◌, ◌||◌, List, [], ◌∷◌, ◌++◌, length, map, drop, refl, ap, ap₂, sym, ◌∙◌, subst, arith, true≢false}
+use Rattle.std.proofs.Common.{◌≡◌, ◌≢◌, inl, inr, ℕ, zero, suc, ◌+◌, ◌<◌, ℤ, pos, negsuc, ◌-ℤ◌, Bool, true, false, not, ◌&&◌, ◌||◌, List, [], ◌∷◌, ◌++◌, length, map, drop, refl, ap, ap₂, sym, ◌∙◌, subst, arith, true≢false}
 use Rattle.std.specs.Prelude.{int_le, int_lt}
 use Rattle.std.specs.List.{list_any, list_all}
 use Rattle.std.specs.Ordering.{int_eq}
 use Rattle.std.proofs.lemmas.Int.{ints}
-use Rattle.xf_num.specs.Span.{Bounds, IsWithin}
+use Rattle.xf_num.specs.Span.{Bounds}
 use Rattle.fz_model.specs.Calls.{call_of}
 use Rattle.fz_model.specs.declared.builtin.Builtin.TheVariants.{IntEq, IntNe, IntLe, IntLt, SetIn}
 use Rattle.fz_model.specs.declared.model.Arg.TheVariants as arg
 use Rattle.fz_model.specs.declared.model.Call.{Call}
 use Rattle.fz_model.specs.Fixing.{IsBit}
-use Rattle.fz_model.specs.Meaning.{truth, number, numbers, has, is_one, is_zero, clause as clause_of, CallHolds}
+use Rattle.fz_model.specs.Meaning.{truth, numbers, has, is_one, is_zero, clause as clause_of, CallHolds}
 use Rattle.fz_model.proofs.Calls.{equal as equal_is, equal_met, unequal, unequal_met, has-Set, int_eq_says, int_eq_met, int_ne_says, int_ne_met, int_le_says, int_le_met, int_lt_says, int_lt_met, set_in_says, set_in_met, bool_clause_says, bool_clause_met}
 use Rattle.xs_model.specs.declared.expr.Op.{Op}
 use Rattle.xs_model.specs.declared.expr.Op.TheVariants.{Neg, Abs, Sqr, Add, Mul, Sub, Dist, Div, Mod, Pow, Min, Max, Lt, Le, Gt, Ge, Ne, Eq, Set, In, NotIn, Not, And, Or, Xor, Iff, Imp, If}
 use Rattle.xs_model.specs.Value.{at, apply, is_true, all_equal}
 use Rattle.xs_expr.specs.Shape.{is_set_operator}
 use Rattle.lo_base.specs.Item.{Item, Posted, made}
-use Rattle.lo_base.specs.Solved.{Meets, Extends}
-use Rattle.lo_base.proofs.Solving.{extends_nil, extends_posted}
+use Rattle.lo_base.proofs.Solving.{extends_posted}
 use Rattle.lo_terms.specs.declared.term.Operand.{Operand}
 use Rattle.lo_terms.specs.declared.term.Term.{Term}
 use Rattle.lo_terms.specs.declared.term.Term.TheVariants.{Int, Truth, Var}
 use Rattle.lo_terms.specs.declared.term.Mode.TheVariants.{Number, Logic, Stated}
-use Rattle.lo_terms.specs.Emitted.{Out, arg_of, list_of, standing, clause, truth_of_number}
+use Rattle.lo_terms.specs.Emitted.{Out, arg_of, list_of, clause, truth_of_number}
 use Rattle.lo_terms.specs.Rules.{terms_of, term_at, integer_term, posting_clause, stated_equalities, stated_equal, asserted, stated_written, stated_member_among, stated_member, stated_node, as_truth, some_equal, literal_truth, literal, variable}
-use Rattle.lo_meaning.proofs.Solves.{num, num-Int, num-Truth, num-Var, Before, AllBefore, Lasts, Solves, solves_nil, solves_posted, Gives, gives_standing, states_after}
+use Rattle.lo_meaning.proofs.Solves.{num, num-Int, num-Truth, Lasts, Solves, solves_nil, solves_posted, Gives, gives_standing, states_after}
 use Rattle.lo_meaning.proofs.Given.{Valued, AllValued, numbers_of_list, gives_tested}
 use Rattle.lo_meaning.proofs.Numbers.{With, lasts_with, given_with}
-use Rattle.lo_meaning.proofs.Operands.{AllBits, valued_at, valued_head, valued_tail, all_bits, logic_is, bit_at, spans_of}
+use Rattle.lo_meaning.proofs.Operands.{valued_at, valued_head, valued_tail, all_bits, logic_is, bit_at, spans_of}
 use Rattle.lo_meaning.proofs.Nodes.{Input, gives_logic, terms_length}
 use Rattle.lo_meaning.proofs.Truths.{adjacent, all_adjacent, gives_some_equal}
-use Rattle.lo_meaning.proofs.Tests.{both_true, both_met, either_true, either_left, any_ones, one_is, one_truth, bit_is, truth_one, le_is, le_met}
+use Rattle.lo_meaning.proofs.Tests.{both_true, both_met, any_ones, one_truth, bit_is, truth_one}
 
 -- the items state P and give nothing else
 abbrev pub States : (List ℤ → Type 0) → ℕ → Type 0 → List Item → Type 0
@@ -80,7 +79,7 @@ states_asserted F n v c lasts g =
     let k = n + made c.items in
     states_after F n v (v ≡ pos 1) c (λ j t. posting_clause (t ∷ []) []) lasts g
     (states_clause (With F c.term v) k (v ≡ pos 1) (c.term ∷ []) [] (v ∷ []) [] (lasts_with F n k c.term v (omega arith) lasts g.before) (λ b f. ap (λ (z : ℤ). z ∷ []) (given_with F c.term v b f)) (λ b f. refl)
-        (λ h. sym (equal_is (pos 1) v (sym (clause_of_one v) ∙ h))) (λ e. clause_of_one v ∙ equal_met (pos 1) v (sym e)))
+    (λ h. sym (equal_is (pos 1) v (sym (clause_of_one v) ∙ h))) (λ e. clause_of_one v ∙ equal_met (pos 1) v (sym e)))
 
 -- false is never so
 states_false : (F : List ℤ → Type 0) (n : ℕ) → Lasts n F → States F n (truth false ≡ pos 1) (posting_clause (Truth false ∷ []) []).items
@@ -103,9 +102,9 @@ states_equalities F n x (y ∷ ys) u (v ∷ vs) lasts many hx hys =
     (λ p. both_met one rest (one_truth (int_eq u v) ∙ equal_met u v p.0) p.1)
     (λ h. let parts = both_true one rest h in (equal_is u v (sym (one_truth (int_eq u v)) ∙ parts.0), parts.1))
     (states_more F n (u ≡ v) (rest ≡ true) (call_of IntEq (arg_of x ∷ arg_of y ∷ [])) (stated_equalities y ys) lasts
-        (λ b f h. sym (hx b f) ∙ int_eq_says b (arg_of x) (arg_of y) h ∙ hy b f)
-        (λ b f e. int_eq_met b (arg_of x) (arg_of y) (hx b f ∙ e ∙ sym (hy b f)))
-        (states_equalities F n y ys v vs lasts (omega arith) hy (valued_tail F y ys v vs hys)))
+    (λ b f h. sym (hx b f) ∙ int_eq_says b (arg_of x) (arg_of y) h ∙ hy b f)
+    (λ b f e. int_eq_met b (arg_of x) (arg_of y) (hx b f ∙ e ∙ sym (hy b f)))
+    (states_equalities F n y ys v vs lasts (omega arith) hy (valued_tail F y ys v vs hys)))
 
 states_equal : (F : List ℤ → Type 0) (n : ℕ) (xs : List Term) (vs : List ℤ) → Lasts n F → length xs ≡ length vs → AllValued F xs vs → States F n (truth (all_equal vs) ≡ pos 1) (stated_equal xs).items
 states_equal F n [] [] lasts many h = solves_nil F (λ b. Unit {0}) (truth (all_equal []) ≡ pos 1) n (λ b f. (refl, tt))

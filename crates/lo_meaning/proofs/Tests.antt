@@ -1,13 +1,13 @@
 -- Tests of integers and lists of them, in the words of calls and in those of expressions.
-use Rattle.std.proofs.Common.{◌≡◌, ◌≢◌, ◌⊎◌, inl, inr, ℕ, zero, suc, ◌+◌, ◌≤◌, ℤ, pos, negsuc, ◌≤ℤ◌, ◌+ℤ◌, ◌-ℤ◌, Bool, true, false, not, ◌&&◌, ◌||◌, List, [], ◌∷◌, ◌++◌, length, map, fold, refl, ap, sym, subst, ◌∙◌, arith, true≢false}
-use Rattle.std.specs.Prelude.{int_le, int_lt, int_div, int_rem, if◌then◌else◌}
+use Rattle.std.proofs.Common.{◌≡◌, ◌≢◌, ◌⊎◌, inl, inr, zero, suc, ℤ, pos, negsuc, ◌≤ℤ◌, ◌-ℤ◌, Bool, true, false, not, ◌&&◌, ◌||◌, List, [], ◌∷◌, ◌++◌, length, map, fold, refl, ap, sym, ◌∙◌, arith, true≢false}
+use Rattle.std.specs.Prelude.{int_le}
 use Rattle.std.specs.List.{list_any, list_all}
 use Rattle.std.specs.Int.{int_min, int_max}
 use Rattle.std.specs.Ordering.{int_eq}
 use Rattle.std.proofs.lemmas.Int.{ints, clamps}
 use Rattle.fz_model.specs.Fixing.{IsBit}
-use Rattle.fz_model.specs.Meaning.{truth, dot, is_one, is_zero, is_least, is_greatest, is_quotient, is_remainder, clause}
-use Rattle.fz_model.proofs.Calls.{equal, equal_met, unequal, unequal_met}
+use Rattle.fz_model.specs.Meaning.{truth, dot, is_one, is_least, is_greatest}
+use Rattle.fz_model.proofs.Calls.{equal, equal_met}
 use Rattle.xs_model.specs.Value.{is_true, sum_of, least_of, greatest_of}
 
 pub both_true : (s t : Bool) → (s && t) ≡ true → (s ≡ true) × (t ≡ true)

@@ -1,22 +1,20 @@
 -- What the operators that give truth values are lowered to gives their values.
-use Rattle.std.proofs.Common.{◌≡◌, ◌≢◌, ◌⊎◌, inl, inr, ℕ, zero, suc, ◌+◌, ◌≤◌, ◌==◌, ℤ, pos, ◌+ℤ◌, ◌-ℤ◌, ◌≤ℤ◌, Bool, true, false, not, ◌&&◌, ◌||◌, List, [], ◌∷◌, ◌++◌, length, map, refl, ap, ap₂, sym, ◌∙◌, subst, arith, true≢false, slice_index_or}
-use Rattle.std.specs.Prelude.{int_le, int_lt, if◌then◌else◌}
+use Rattle.std.proofs.Common.{◌≡◌, ℕ, ◌+◌, ◌==◌, ℤ, pos, Bool, true, false, not, ◌&&◌, ◌||◌, List, [], ◌∷◌, ◌++◌, length, map, refl, ap, ap₂, sym, ◌∙◌, subst, arith, slice_index_or}
+use Rattle.std.specs.Prelude.{if◌then◌else◌}
 use Rattle.std.specs.List.{list_any, list_all}
 use Rattle.std.specs.Ordering.{int_eq}
-use Rattle.std.proofs.lemmas.Int.{ints}
 use Rattle.std.proofs.lemmas.Bool.Decides.{nat_tests}
 use Rattle.fz_model.specs.declared.builtin.Builtin.TheVariants.{IntEqReif, ArrayBoolAnd, ArrayBoolOr, BoolNot, BoolXor}
-use Rattle.fz_model.specs.Fixing.{IsBit}
 use Rattle.fz_model.specs.Meaning.{truth, is_one}
 use Rattle.fz_model.proofs.Calls.{equal as equal_is, equal_met}
 use Rattle.xs_model.specs.Value.{is_true, all_equal as every_equal, is_odd}
 use Rattle.lo_base.specs.Item.{made}
 use Rattle.lo_base.proofs.Solving.{made-append}
 use Rattle.lo_terms.specs.declared.term.Term.{Term}
-use Rattle.lo_terms.specs.declared.term.Term.TheVariants.{Truth, Var}
-use Rattle.lo_terms.specs.Emitted.{Out, Outs, truth_of_one, truth_of_two, truth_of_list, truth_of_set, after, after_all}
-use Rattle.lo_terms.specs.Rules.{equalities, all_equal, equal_to, equal, comparisons, integer_term, written_member, some_equal, member_among, member, no_member, parity, parity_of}
-use Rattle.lo_meaning.proofs.Solves.{num, num-Truth, Before, AllBefore, before_more, all_before_more, Lasts, lasts_more, lasts_both, lasts_nums, Solves, solves_nil, solves_join, solves_as, Gives, GivesAll, gives_standing, gives_after, gives_after_all}
+use Rattle.lo_terms.specs.declared.term.Term.TheVariants.{Truth}
+use Rattle.lo_terms.specs.Emitted.{Out, Outs, truth_of_one, truth_of_two, truth_of_list}
+use Rattle.lo_terms.specs.Rules.{equalities, all_equal, equal_to, equal, comparisons, integer_term, written_member, some_equal, member, no_member, parity, parity_of}
+use Rattle.lo_meaning.proofs.Solves.{num, num-Truth, Before, AllBefore, before_more, all_before_more, Lasts, lasts_more, lasts_both, lasts_nums, solves_nil, solves_join, solves_as, Gives, GivesAll, gives_standing, gives_after, gives_after_all}
 use Rattle.lo_meaning.proofs.Given.{Valued, AllValued, gives_eq, gives_xor, gives_not, gives_all, gives_any, gives_among}
 use Rattle.lo_meaning.proofs.Numbers.{With, lasts_with, given_with, valued_with, all_valued_with}
 use Rattle.lo_meaning.proofs.Operands.{AllBits, valued_head, valued_tail}
@@ -59,7 +57,7 @@ gives_equalities F n lasts x (y ∷ ys) u (v ∷ vs) many hx hys =
     let first = gives_eq F n lasts x y u v hx hy in
     more_terms F n r (adjacent v vs) c (equalities (n + made c.items) y ys) lasts first
     (gives_equalities (With F c.term r) (n + made c.items) (lasts_with F n (n + made c.items) c.term r (omega arith) lasts first.before) y ys v vs (omega arith)
-        (valued_with F c.term r y v hy) (all_valued_with F c.term r ys vs (valued_tail F y ys v vs hys)))
+    (valued_with F c.term r y v hy) (all_valued_with F c.term r ys vs (valued_tail F y ys v vs hys)))
 
 same_and : (t : Bool) (r s : Bool) → (t ≡ true → r ≡ s) → (t && r) ≡ (t && s)
 same_and true r s h = h refl
@@ -85,7 +83,7 @@ gives_all_equal F n lasts x ys u vs many hx hys =
     let F' : List ℤ → Type 0 = λ b. F b × (map (num b) d.terms ≡ adjacent u vs) in
     gives_after_all F n (adjacent u vs) (truth (every_equal (u ∷ vs))) d (λ i bs. truth_of_list i ArrayBoolAnd bs) lasts first
     (gives_as F' k (truth (list_all is_one (adjacent u vs))) (truth (every_equal (u ∷ vs))) (truth_of_list k ArrayBoolAnd d.terms) (ap truth (all_adjacent u vs))
-        (gives_all F' k (lasts_both k F (λ b. map (num b) d.terms ≡ adjacent u vs) (lasts_more n k F (omega arith) lasts) (lasts_nums k d.terms (adjacent u vs) first.before)) d.terms (adjacent u vs) (λ b f. f.1)))
+    (gives_all F' k (lasts_both k F (λ b. map (num b) d.terms ≡ adjacent u vs) (lasts_more n k F (omega arith) lasts) (lasts_nums k d.terms (adjacent u vs) first.before)) d.terms (adjacent u vs) (λ b f. f.1)))
 
 gives_one_equal : (F : List ℤ → Type 0) (n : ℕ) (lasts : Lasts n F) (x : Term) (ys : List Term) (u : ℤ) (vs : List ℤ) → length ys ≡ 1 → length ys ≡ length vs → Valued F x u → AllValued F ys vs
     → Gives F n (truth (every_equal (u ∷ vs))) (truth_of_two n IntEqReif x (slice_index_or ys 0 x))
@@ -134,7 +132,7 @@ gives_comparisons F n lasts x (m ∷ ms) u (v ∷ vs) many hx hms =
     let first = gives_eq F n lasts x m u v hx (valued_head F m ms v vs hms) in
     more_terms F n r (compared u vs) c (comparisons (n + made c.items) x ms) lasts first
     (gives_comparisons (With F c.term r) (n + made c.items) (lasts_with F n (n + made c.items) c.term r (omega arith) lasts first.before) x ms u vs (omega arith)
-        (valued_with F c.term r x u hx) (all_valued_with F c.term r ms vs (valued_tail F m ms v vs hms)))
+    (valued_with F c.term r x u hx) (all_valued_with F c.term r ms vs (valued_tail F m ms v vs hms)))
 
 compared_is : (u : ℤ) (vs : List ℤ) → list_any is_one (compared u vs) ≡ list_any (int_eq u) vs
 unfolding compared
@@ -150,7 +148,7 @@ gives_some_equal F n lasts x ms u vs many hx hms =
     let F' : List ℤ → Type 0 = λ b. F b × (map (num b) d.terms ≡ compared u vs) in
     gives_after_all F n (compared u vs) (truth (list_any (int_eq u) vs)) d (λ i bs. truth_of_list i ArrayBoolOr bs) lasts first
     (gives_as F' k (truth (list_any is_one (compared u vs))) (truth (list_any (int_eq u) vs)) (truth_of_list k ArrayBoolOr d.terms) (ap truth (compared_is u vs))
-        (gives_any F' k (lasts_both k F (λ b. map (num b) d.terms ≡ compared u vs) (lasts_more n k F (omega arith) lasts) (lasts_nums k d.terms (compared u vs) first.before)) d.terms (compared u vs) (λ b f. f.1)))
+    (gives_any F' k (lasts_both k F (λ b. map (num b) d.terms ≡ compared u vs) (lasts_more n k F (omega arith) lasts) (lasts_nums k d.terms (compared u vs) first.before)) d.terms (compared u vs) (λ b f. f.1)))
 
 gives_written : (F : List ℤ → Type 0) (n : ℕ) (lasts : Lasts n F) (x : Term) (zs : List ℤ) (u : ℤ) → Valued F x u → Gives F n (truth (list_any (int_eq u) zs)) (written_member n x zs)
 gives_written F n lasts x [] u hx = gives_standing F n (pos 0) (Truth false) tt (λ b f. num-Truth b false)
@@ -202,8 +200,8 @@ gives_parity F n lasts x (t ∷ ts) s (v ∷ vs) many bits before hx hts =
     let k = n + made c.items in
     gives_as F n (truth (is_odd (truth r ∷ vs))) (truth (is_odd (truth s ∷ v ∷ vs))) (parity n x (t ∷ ts)) (ap truth (odd_step s q vs) ∙ ap (λ (z : ℤ). truth (is_odd (truth s ∷ z ∷ vs))) (sym is))
     (gives_after F n (truth r) (truth (is_odd (truth r ∷ vs))) c (λ i y. parity i y ts) lasts first
-        (gives_parity (With F c.term (truth r)) k (lasts_with F n k c.term (truth r) (omega arith) lasts first.before) c.term ts r vs (omega arith) bits.1 first.before (given_with F c.term (truth r))
-            (all_valued_with F c.term (truth r) ts vs (valued_tail F t ts v vs hts))))
+    (gives_parity (With F c.term (truth r)) k (lasts_with F n k c.term (truth r) (omega arith) lasts first.before) c.term ts r vs (omega arith) bits.1 first.before (given_with F c.term (truth r))
+    (all_valued_with F c.term (truth r) ts vs (valued_tail F t ts v vs hts))))
 
 pub gives_parity_of : (F : List ℤ → Type 0) (n : ℕ) (lasts : Lasts n F) (ts : List Term) (vs : List ℤ) → length ts ≡ length vs → AllBits vs → AllBefore n ts → AllValued F ts vs → Gives F n (truth (is_odd vs)) (parity_of n ts)
 gives_parity_of F n lasts [] [] many bits before h = gives_standing F n (pos 0) (Truth false) tt (λ b f. num-Truth b false)
