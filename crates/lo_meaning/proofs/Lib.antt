@@ -9,3 +9,4 @@ pub mod Nodes
 pub mod Stated
 pub mod Expressions
 pub mod Meaning
+pub mod Steps
