@@ -43,7 +43,7 @@ use Rattle.lo_meaning.proofs.Stated.{States, states_as, states_node, gives_liter
 use Rattle.lo_meaning.proofs.Tests.{both_true, both_met, truth_one}
 
 -- operands in a row
-terms_join : (os ps : List Operand) → terms_of (os ++ ps) ≡ terms_of os ++ terms_of ps
+pub terms_join : (os ps : List Operand) → terms_of (os ++ ps) ≡ terms_of os ++ terms_of ps
 terms_join os ps = map-append (λ (o : Operand). o.term) os ps
 
 spans_join : (os ps : List Operand) → spans_of (os ++ ps) ≡ spans_of os ++ spans_of ps
@@ -107,7 +107,7 @@ set-Int z = ap is_set_layer (layer-Int z)
 set-Var : (v : ℕ) → is_set (var_expr v) ≡ false
 set-Var v = ap is_set_layer (layer-Var v)
 
-set-Node : (op : Op) (es : List Expr) → is_set (node_expr op es) ≡ is_set_operator op
+pub set-Node : (op : Op) (es : List Expr) → is_set (node_expr op es) ≡ is_set_operator op
 set-Node op es = ap is_set_layer (layer-Node op es)
 
 exponent_no_set : (x : Expr-F Expr) → IsExponentLayer x → is_set_layer x ≡ false
@@ -126,10 +126,10 @@ power_no_sets (e ∷ []) h = absurd h
 power_no_sets (e ∷ k ∷ []) h = (h.0, (exponent_no_set (out-Expr k) h.1, tt))
 power_no_sets (e ∷ k ∷ f ∷ es) h = absurd h
 
-clash : {P : Type 0} (t : Bool) → t ≡ true → t ≡ false → P
+pub clash : {P : Type 0} (t : Bool) → t ≡ true → t ≡ false → P
 clash t h k = absurd (true≢false (sym h ∙ k))
 
-set_only : (op : Op) → is_set_operator op ≡ true → op ≡ Set
+pub set_only : (op : Op) → is_set_operator op ≡ true → op ≡ Set
 set_only Set h = refl
 set_only op h = absurd (true≢false (sym h))
 
@@ -810,3 +810,46 @@ module _ (ss : List Bounds) (a : List ℤ) (w : AreWithin ss a) where
   -- what states an expression of truth values states that its value is 1, where the variables have the values a
   pub stated : (e : Expr) → IsShaped e → HasSpans ss e → (b : Bounds) → bounds ss e ≡ Ok b → is_set e ≡ false → is_truth b ≡ true → (n : ℕ) → length ss ≤ n → States Fixed n (val a e ≡ pos 1) (low_intension ss n e)
   stated e d s b is plain t n le = (says e d s b is n le).states plain t
+
+  -- what an expression is lowered to as a number stands for its value
+  pub counted : (e : Expr) → IsShaped e → HasSpans ss e → (b : Bounds) → bounds ss e ≡ Ok b → is_set e ≡ false → (n : ℕ) → length ss ≤ n
+      → Solves Fixed (λ c. map (num c) (terms_of (low_expr ss e Number n).operands) ≡ val a e ∷ []) (Unit {0}) n (low_expr ss e Number n).items
+  counted e d s b is plain n le =
+      let l = low_expr ss e Number n in
+      solves_as Fixed Fixed (λ c. map (num c) (terms_of l.operands) ≡ offered e) (λ c. map (num c) (terms_of l.operands) ≡ val a e ∷ []) (Unit {0}) (Unit {0}) n l.items
+      (λ c f. f) (λ c f g. g ∙ plain_offered e plain) (λ p. p) (λ p. p) (says e d s b is n le).counts.solves
+
+-- an expression that is no set is one operand
+module _ (ss : List Bounds) where
+  pub record Alone (e : Expr) (mode : Mode) (n : ℕ) : Type 0 where
+    pub operand : Operand
+    pub is : (low_expr ss e mode n).operands ≡ operand ∷ []
+    pub span : operand.span ≡ span_of ss e
+
+  abbrev IsAlone : Expr → Type 0
+  IsAlone e = is_set e ≡ false → (mode : Mode) (n : ℕ) → Alone e mode n
+
+  alone_Node : (op : Op) (es : List Expr) → IsAlone (node_expr op es)
+  alone_Node op es plain mode n =
+      let e = node_expr op es in
+      let w = span_of ss e in
+      let l = low_operands ss op mode 0 n es in
+      let k = n + made l.items in
+      let last : Bool → Low = λ t. own_low_of t op mode w (has_written es) k l.operands in
+      record {
+        operand = record { term = (node op mode w (has_written es) k l.operands).term; span = w };
+        is = ap (λ (m : Low). m.operands) (low-Node ss e op es mode n refl) ∙ ap (λ (t : Bool). (last t).operands) (sym (set-Node op es) ∙ plain);
+        span = refl;
+      }
+
+  alone_layer : (y : Expr-F ((e : Expr) × IsAlone e)) → IsAlone (roll-Expr (map-Expr ((e : Expr) × IsAlone e) Expr (λ p. p.0) y))
+  alone_layer (Expr-F.Int z) =
+      subst IsAlone (sym (rolls-Int z))
+      (λ plain mode n. record { operand = record { term = (literal_low mode n z).term; span = span_of ss (int_expr z) }; is = ap (λ (m : Low). m.operands) (low-Int ss (int_expr z) z mode n refl); span = refl })
+  alone_layer (Expr-F.Var v) =
+      subst IsAlone (sym (rolls-Var v))
+      (λ plain mode n. record { operand = record { term = (variable mode n v).term; span = span_of ss (var_expr v) }; is = ap (λ (m : Low). m.operands) (low-Var ss (var_expr v) v mode n refl); span = refl })
+  alone_layer (Expr-F.Node op ps) = subst IsAlone (sym (rolls-Node op (map (λ p. p.0) ps))) (alone_Node op (map (λ p. p.0) ps))
+
+  pub alone : (e : Expr) → IsAlone e
+  alone = ind-Expr IsAlone (λ x y is. subst (λ z. IsAlone (roll-Expr z)) is (alone_layer y))

@@ -10,3 +10,5 @@ pub mod Stated
 pub mod Expressions
 pub mod Meaning
 pub mod Steps
+pub mod StepNodes
+pub mod StepExpressions

@@ -1,4 +1,4 @@
--- The law: what states an expression means that its value is 1.
+-- The laws: what states an expression means that its value is 1, and as a number it gives its value.
 use Rattle.std.proofs.Common.{◌≡◌, ℕ, zero, suc, ◌<◌, ℤ, List, [], ◌∷◌, ◌++◌, length, map, take, refl, ap, ap₂, sym, ◌∙◌, subst, arith, All}
 use Rattle.std.proofs.lemmas.List.Elements.{All-tail}
 use Rattle.fz_model.specs.Meaning.{at as value_at}
@@ -11,8 +11,14 @@ use Rattle.xs_expr.specs.Bounds.{HasVariable, HasVariables}
 use Rattle.xs_expr.proofs.Every.{every-operands, every-var}
 use Rattle.xs_expr.proofs.Layers.{worth-Int, worth-Var, worth-Node}
 use Rattle.lo_base.proofs.Solving.{at_front}
-use Rattle.lo_meaning.specs.Laws.{IntensionMeans}
-use Rattle.lo_meaning.proofs.Expressions.{stated}
+use Rattle.lo_meaning.specs.Laws.{IntensionMeans, NumberMeans}
+use Rattle.lo_meaning.proofs.Expressions.{stated, counted, alone}
+use Rattle.lo_meaning.proofs.Solves.{num}
+use Rattle.lo_terms.specs.declared.term.Mode.TheVariants.{Number}
+use Rattle.lo_terms.specs.declared.term.Operand.{Operand}
+use Rattle.lo_terms.specs.Emitted.{ends}
+use Rattle.lo_terms.specs.Lowering.{low_expr}
+use Rattle.lo_terms.specs.Rules.{terms_of}
 
 -- an expression is worth the same where its variables are
 module _ (n : ℕ) (a c : List ℤ) (agree : (k : ℕ) → k < n → at a k ≡ at c k) where
@@ -57,3 +63,23 @@ intension_means ss n e b shaped spans le is plain truths = record {
       (stated ss front within e shaped spans b is plain truths n le).complete a len (λ k lt. sym (taken a (length ss) k lt))
       (sym (value_same (length ss) a front (λ k lt. sym (taken a (length ss) k lt)) e spans) ∙ holds);
 }
+
+first_value : (x y : ℤ) → x ∷ [] ≡ y ∷ [] → x ≡ y
+first_value x y h = cc
+
+pub number_means : NumberMeans
+number_means ss n e b shaped spans le is plain =
+    let one = alone ss e plain Number n in
+    let l = low_expr ss e Number n in
+    record {
+      operand = one.operand;
+      alone = one.is;
+      span = one.span ∙ ap ends is;
+      sound = λ a c len room within h.
+          let front : List ℤ = take (length ss) a in
+          let known : (k : ℕ) → k < length ss → value_at (a ++ c) k ≡ at front k = λ k lt. at_front a c k (omega (arith, lt, le, len)) ∙ sym (taken a (length ss) k lt) in
+          let shown = ((counted ss front within e shaped spans b is plain n le).sound (a ++ c) known h).1 in
+          first_value (num (a ++ c) one.operand.term) (val front e) (sym (ap (λ (os : List Operand). map (num (a ++ c)) (terms_of os)) one.is) ∙ shown)
+          ∙ sym (value_same (length ss) a front (λ k lt. sym (taken a (length ss) k lt)) e spans);
+      complete = λ a len within. (counted ss (take (length ss) a) within e shaped spans b is plain n le).complete a len (λ k lt. sym (taken a (length ss) k lt)) tt;
+    }

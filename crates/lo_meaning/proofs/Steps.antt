@@ -1,16 +1,14 @@
 -- Lists of items whose new variables follow from those before, where something is known of the values before.
-use Rattle.std.proofs.Common.{◌≡◌, ◌≢◌, ◌⊎◌, inl, inr, ℕ, zero, suc, ◌+◌, ◌<◌, ◌≤◌, ℤ, pos, negsuc, Bool, true, false, List, [], ◌∷◌, ◌++◌, length, map, refl, ap, ap₂, sym, subst, ◌∙◌, arith}
+use Rattle.std.proofs.Common.{◌≡◌, ◌≢◌, ◌⊎◌, inl, inr, ℕ, ◌+◌, ◌<◌, ◌≤◌, ℤ, pos, negsuc, List, [], ◌∷◌, ◌++◌, length, map, ap₂, sym, subst, ◌∙◌, arith}
 use Rattle.std.proofs.lemmas.List.{map-append, length-map}
-use Rattle.std.specs.List.{AllByRecursion}
 use Rattle.xf_num.specs.Span.{Bounds}
 use Rattle.fz_model.specs.Calls.{call_of}
-use Rattle.fz_model.specs.declared.builtin.Builtin.{Builtin}
 use Rattle.fz_model.specs.declared.builtin.Builtin.TheVariants.{IntLinEq, BoolNot}
 use Rattle.fz_model.specs.declared.model.Arg.{Arg, out-Arg}
 use Rattle.fz_model.specs.declared.model.Arg.TheVariants as arg
 use Rattle.fz_model.specs.declared.model.Call.{Call}
 use Rattle.fz_model.specs.Fixing.{Fixes, IsBit, IsBefore, IsItemBefore, AreItemsBefore, NotOfBits}
-use Rattle.fz_model.specs.Meaning.{at, number}
+use Rattle.fz_model.specs.Meaning.{at}
 use Rattle.fz_model.proofs.Fixing.{before-Int, before-Bool, before-Var, before-List, item_before-Int, item_before-Bool, item_before-Var, int_lin_eq_fixes}
 use Rattle.lo_base.specs.Item.{Item, Ranged, Boolean, Posted, made}
 use Rattle.lo_base.specs.Solved.{Meets}
@@ -19,7 +17,7 @@ use Rattle.lo_base.proofs.Solving.{made-append, meets_split}
 use Rattle.lo_base.proofs.Steps.{bits_join}
 use Rattle.lo_terms.specs.declared.term.Term.{Term}
 use Rattle.lo_terms.specs.declared.term.Term.TheVariants.{Int, Truth, Var}
-use Rattle.lo_terms.specs.Emitted.{Out, Outs, arg_of, list_of, constants_of, standing, after, after_all, integer, boolean, integer_of_sum}
+use Rattle.lo_terms.specs.Emitted.{Out, Outs, arg_of, list_of, standing, after, after_all, integer, boolean, integer_of_sum}
 use Rattle.lo_meaning.proofs.Solves.{num, num-Var, Before, AllBefore, before_more, all_before_more}
 
 -- Where F is known, the new variables of the items are settled, truth values are 0 or 1 where they have to be, and G is
@@ -152,7 +150,7 @@ steady_sum F n w cs z xs c unit many h =
     ap₂ sum_of (sym (map-append arg.Int cs (z ∷ []))) (sym (map-append arg_of xs (Var n ∷ []))) in
     steady_integer F n w (sum_of (map arg.Int (cs ++ (z ∷ []))) (map arg_of (xs ++ (Var n ∷ [])))) (λ e. cc)
     (subst (Fixes n) same
-        (int_lin_eq_fixes n z (map arg.Int cs) (map arg_of xs) (arg.Int c) unit (length-map cs arg.Int ∙ many ∙ sym (length-map xs arg_of)) (constants_before n cs) (items_before n xs h) (before-Int n c)))
+    (int_lin_eq_fixes n z (map arg.Int cs) (map arg_of xs) (arg.Int c) unit (length-map cs arg.Int ∙ many ∙ sym (length-map xs arg_of)) (constants_before n cs) (items_before n xs h) (before-Int n c)))
 
 -- one after the other
 pub steady_after : (F : List ℤ → Type 0) (n : ℕ) (c : Out) (f : ℕ → Term → Out) → Steady F n c → Steady F (n + made c.items) (f (n + made c.items) c.term) → Steady F n (after n c f)

@@ -1,8 +1,13 @@
--- What the items mean that state an expression.
-use Rattle.std.specs.Prelude.{◌≡◌, ℕ, ◌≤◌, ℤ, pos, true, false, List, ◌++◌, length, take, Ok}
+-- What the items mean that an expression is lowered to.
+use Rattle.std.specs.Prelude.{◌≡◌, ℕ, ◌≤◌, ℤ, pos, true, false, List, [], ◌∷◌, ◌++◌, length, take, Ok}
+use Rattle.fz_model.specs.Meaning.{number}
 use Rattle.lo_base.specs.Item.{Item, made}
 use Rattle.lo_base.specs.Solved.{Meets, Extends}
-use Rattle.lo_terms.specs.Lowering.{low_intension}
+use Rattle.lo_base.specs.Stepwise.{Stepwise}
+use Rattle.lo_terms.specs.declared.term.Mode.TheVariants.{Number}
+use Rattle.lo_terms.specs.declared.term.Operand.{Operand}
+use Rattle.lo_terms.specs.Emitted.{arg_of}
+use Rattle.lo_terms.specs.Lowering.{Low, low_expr, low_intension}
 use Rattle.xf_num.specs.Span.{Bounds}
 use Rattle.xs_model.specs.declared.expr.Expr.{Expr}
 use Rattle.xs_model.specs.Value.{val}
@@ -25,3 +30,21 @@ BeginsWithin ss a = AreWithin ss (take (length ss) a)
 abbrev pub IntensionMeans : Type 0
 IntensionMeans = (ss : List Bounds) (n : ℕ) (e : Expr) (b : Bounds) → IsShaped e → HasSpans ss e → length ss ≤ n → bounds ss e ≡ Ok b → is_set e ≡ false → is_truth b ≡ true
     → MeansWithin (BeginsWithin ss) (λ a. val a e ≡ pos 1) n (low_intension ss n e)
+
+-- the law: its new variables follow from those before
+abbrev pub IntensionStepwise : Type 0
+IntensionStepwise = (ss : List Bounds) (n : ℕ) (e : Expr) → IsShaped e → HasSpans ss e → length ss ≤ n → is_set e ≡ false → Stepwise n (low_intension ss n e)
+
+-- What an expression is lowered to, where n is the first new variable, is one operand of these bounds, which stands for
+-- the number f of the values before, among values of which D holds; and these can always be extended.
+pub record GivesWithin (D : List ℤ → Type 0) (f : List ℤ → ℤ) (b : Bounds) (n : ℕ) (l : Low) : Type 0 where
+  pub operand : Operand
+  pub alone : l.operands ≡ operand ∷ []
+  pub span : operand.span ≡ b
+  pub sound : (a c : List ℤ) → length a ≡ n → made l.items ≤ length c → D a → Meets n l.items (a ++ c) → number (a ++ c) (arg_of operand.term) ≡ f a
+  pub complete : (a : List ℤ) → length a ≡ n → D a → Extends a l.items
+
+-- the law: an expression that is no set, lowered as a number, gives its value
+abbrev pub NumberMeans : Type 0
+NumberMeans = (ss : List Bounds) (n : ℕ) (e : Expr) (b : Bounds) → IsShaped e → HasSpans ss e → length ss ≤ n → bounds ss e ≡ Ok b → is_set e ≡ false
+    → GivesWithin (BeginsWithin ss) (λ a. val a e) b n (low_expr ss e Number n)
