@@ -12,3 +12,5 @@ pub mod Meaning
 pub mod Steps
 pub mod StepNodes
 pub mod StepExpressions
+pub mod Sizes
+pub mod Joins

@@ -42,7 +42,7 @@ module _ (n : ℕ) (a c : List ℤ) (agree : (k : ℕ) → k < n → at a k ≡ 
   worth_same : (e : Expr) → Same e
   worth_same = ind-Expr Same (λ x y is. subst (λ z. Same (roll-Expr z)) is (same_layer y))
 
-  value_same : (e : Expr) → HasVariables n e → val a e ≡ val c e
+  pub value_same : (e : Expr) → HasVariables n e → val a e ≡ val c e
   value_same e h = ap (λ (v : Worth). v.value) (worth_same e h)
 
 taken : (a : List ℤ) (n k : ℕ) → k < n → at (take n a) k ≡ at a k

@@ -1,13 +1,14 @@
 -- What the items mean that an expression is lowered to.
-use Rattle.std.specs.Prelude.{◌≡◌, ℕ, ◌≤◌, ℤ, pos, true, false, List, [], ◌∷◌, ◌++◌, length, take, Ok}
+use Rattle.std.specs.Prelude.{◌≡◌, ℕ, ◌+◌, ◌*◌, ◌≤◌, ℤ, pos, true, false, List, [], ◌∷◌, ◌++◌, length, take, Ok}
 use Rattle.fz_model.specs.Meaning.{number}
 use Rattle.lo_base.specs.Item.{Item, made}
+use Rattle.lo_base.specs.Lowered.{calls_of}
 use Rattle.lo_base.specs.Solved.{Meets, Extends}
 use Rattle.lo_base.specs.Stepwise.{Stepwise}
 use Rattle.lo_terms.specs.declared.term.Mode.TheVariants.{Number}
 use Rattle.lo_terms.specs.declared.term.Operand.{Operand}
 use Rattle.lo_terms.specs.Emitted.{arg_of}
-use Rattle.lo_terms.specs.Lowering.{Low, low_expr, low_intension}
+use Rattle.lo_terms.specs.Lowering.{Low, low_expr, low_intension, nodes}
 use Rattle.xf_num.specs.Span.{Bounds}
 use Rattle.xs_model.specs.declared.expr.Expr.{Expr}
 use Rattle.xs_model.specs.Value.{val}
@@ -48,3 +49,7 @@ pub record GivesWithin (D : List ℤ → Type 0) (f : List ℤ → ℤ) (b : Bou
 abbrev pub NumberMeans : Type 0
 NumberMeans = (ss : List Bounds) (n : ℕ) (e : Expr) (b : Bounds) → IsShaped e → HasSpans ss e → length ss ≤ n → bounds ss e ≡ Ok b → is_set e ≡ false
     → GivesWithin (BeginsWithin ss) (λ a. val a e) b n (low_expr ss e Number n)
+
+-- the law: how many variables and calls an expression makes at most, over its nodes
+abbrev pub IntensionSize : Type 0
+IntensionSize = (ss : List Bounds) (n : ℕ) (e : Expr) → made (low_intension ss n e) + length (calls_of (low_intension ss n e)) ≤ 132 * nodes e
