@@ -17,3 +17,4 @@ mod tests;
 mod truths;
 
 pub use lower::lower_intension;
+pub use term::{Mode, Operand, Term};

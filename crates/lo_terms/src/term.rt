@@ -11,7 +11,7 @@ use xf_num::{NoMemory, Row, Span};
 
 /// A constant, or a variable by its number.
 #[derive(Clone, Copy)]
-pub(crate) enum Term {
+pub enum Term {
     Int(i128),
     Truth(bool),
     Var(u64),
@@ -19,14 +19,14 @@ pub(crate) enum Term {
 
 /// What stands for an operand, and its bounds.
 #[derive(Clone, Copy)]
-pub(crate) struct Operand {
-    pub(crate) term: Term,
-    pub(crate) span: Span,
+pub struct Operand {
+    pub term: Term,
+    pub span: Span,
 }
 
 /// What is asked of an expression: to be a number, to be a truth value, or to be stated.
 #[derive(Clone, Copy)]
-pub(crate) enum Mode {
+pub enum Mode {
     Number,
     Logic,
     Stated,

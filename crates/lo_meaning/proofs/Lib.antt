@@ -1,0 +1,16 @@
+pub mod Solves
+pub mod Given
+pub mod Tests
+pub mod Operands
+pub mod Numbers
+pub mod Powers
+pub mod Truths
+pub mod Nodes
+pub mod Stated
+pub mod Expressions
+pub mod Meaning
+pub mod Steps
+pub mod StepNodes
+pub mod StepExpressions
+pub mod Sizes
+pub mod Joins

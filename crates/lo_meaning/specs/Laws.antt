@@ -1,0 +1,55 @@
+-- What the items mean that an expression is lowered to.
+use Rattle.std.specs.Prelude.{◌≡◌, ℕ, ◌+◌, ◌*◌, ◌≤◌, ℤ, pos, true, false, List, [], ◌∷◌, ◌++◌, length, take, Ok}
+use Rattle.fz_model.specs.Meaning.{number}
+use Rattle.lo_base.specs.Item.{Item, made}
+use Rattle.lo_base.specs.Lowered.{calls_of}
+use Rattle.lo_base.specs.Solved.{Meets, Extends}
+use Rattle.lo_base.specs.Stepwise.{Stepwise}
+use Rattle.lo_terms.specs.declared.term.Mode.TheVariants.{Number}
+use Rattle.lo_terms.specs.declared.term.Operand.{Operand}
+use Rattle.lo_terms.specs.Emitted.{arg_of}
+use Rattle.lo_terms.specs.Lowering.{Low, low_expr, low_intension, nodes}
+use Rattle.xf_num.specs.Span.{Bounds}
+use Rattle.xs_model.specs.declared.expr.Expr.{Expr}
+use Rattle.xs_model.specs.Value.{val}
+use Rattle.xs_expr.specs.Bounds.{bounds, is_truth, HasSpans}
+use Rattle.xs_expr.specs.Laws.{AreWithin}
+use Rattle.xs_expr.specs.Shape.{IsShaped, is_set}
+
+-- The items, the first of whose variables is n, mean what P says of the values before them, among values of which D
+-- holds.
+pub record MeansWithin (D P : List ℤ → Type 0) (n : ℕ) (xs : List Item) : Type 0 where
+  pub sound : (a c : List ℤ) → length a ≡ n → made xs ≤ length c → D a → Meets n xs (a ++ c) → P a
+  pub complete : (a : List ℤ) → length a ≡ n → D a → P a → Extends a xs
+
+-- the values of the first variables lie within these bounds, place by place
+abbrev pub BeginsWithin : List Bounds → List ℤ → Type 0
+BeginsWithin ss a = AreWithin ss (take (length ss) a)
+
+-- the law: what states an expression that is no set, and whose bounds are those of truth values, means that its value
+-- is 1
+abbrev pub IntensionMeans : Type 0
+IntensionMeans = (ss : List Bounds) (n : ℕ) (e : Expr) (b : Bounds) → IsShaped e → HasSpans ss e → length ss ≤ n → bounds ss e ≡ Ok b → is_set e ≡ false → is_truth b ≡ true
+    → MeansWithin (BeginsWithin ss) (λ a. val a e ≡ pos 1) n (low_intension ss n e)
+
+-- the law: its new variables follow from those before
+abbrev pub IntensionStepwise : Type 0
+IntensionStepwise = (ss : List Bounds) (n : ℕ) (e : Expr) → IsShaped e → HasSpans ss e → length ss ≤ n → is_set e ≡ false → Stepwise n (low_intension ss n e)
+
+-- What an expression is lowered to, where n is the first new variable, is one operand of these bounds, which stands for
+-- the number f of the values before, among values of which D holds; and these can always be extended.
+pub record GivesWithin (D : List ℤ → Type 0) (f : List ℤ → ℤ) (b : Bounds) (n : ℕ) (l : Low) : Type 0 where
+  pub operand : Operand
+  pub alone : l.operands ≡ operand ∷ []
+  pub span : operand.span ≡ b
+  pub sound : (a c : List ℤ) → length a ≡ n → made l.items ≤ length c → D a → Meets n l.items (a ++ c) → number (a ++ c) (arg_of operand.term) ≡ f a
+  pub complete : (a : List ℤ) → length a ≡ n → D a → Extends a l.items
+
+-- the law: an expression that is no set, lowered as a number, gives its value
+abbrev pub NumberMeans : Type 0
+NumberMeans = (ss : List Bounds) (n : ℕ) (e : Expr) (b : Bounds) → IsShaped e → HasSpans ss e → length ss ≤ n → bounds ss e ≡ Ok b → is_set e ≡ false
+    → GivesWithin (BeginsWithin ss) (λ a. val a e) b n (low_expr ss e Number n)
+
+-- the law: how many variables and calls an expression makes at most, over its nodes
+abbrev pub IntensionSize : Type 0
+IntensionSize = (ss : List Bounds) (n : ℕ) (e : Expr) → made (low_intension ss n e) + length (calls_of (low_intension ss n e)) ≤ 132 * nodes e
