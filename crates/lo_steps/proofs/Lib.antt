@@ -1,0 +1,5 @@
+pub mod Steps
+pub mod Nodes
+pub mod Expressions
+pub mod Sizes
+pub mod Squares
