@@ -9,8 +9,4 @@ pub mod Nodes
 pub mod Stated
 pub mod Expressions
 pub mod Meaning
-pub mod Steps
-pub mod StepNodes
-pub mod StepExpressions
-pub mod Sizes
 pub mod Joins

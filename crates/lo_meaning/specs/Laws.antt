@@ -32,10 +32,6 @@ abbrev pub IntensionMeans : Type 0
 IntensionMeans = (ss : List Bounds) (n : ℕ) (e : Expr) (b : Bounds) → IsShaped e → HasSpans ss e → length ss ≤ n → bounds ss e ≡ Ok b → is_set e ≡ false → is_truth b ≡ true
     → MeansWithin (BeginsWithin ss) (λ a. val a e ≡ pos 1) n (low_intension ss n e)
 
--- the law: its new variables follow from those before
-abbrev pub IntensionStepwise : Type 0
-IntensionStepwise = (ss : List Bounds) (n : ℕ) (e : Expr) → IsShaped e → HasSpans ss e → length ss ≤ n → is_set e ≡ false → Stepwise n (low_intension ss n e)
-
 -- What an expression is lowered to, where n is the first new variable, is one operand of these bounds, which stands for
 -- the number f of the values before, among values of which D holds; and these can always be extended.
 pub record GivesWithin (D : List ℤ → Type 0) (f : List ℤ → ℤ) (b : Bounds) (n : ℕ) (l : Low) : Type 0 where
@@ -49,7 +45,3 @@ pub record GivesWithin (D : List ℤ → Type 0) (f : List ℤ → ℤ) (b : Bou
 abbrev pub NumberMeans : Type 0
 NumberMeans = (ss : List Bounds) (n : ℕ) (e : Expr) (b : Bounds) → IsShaped e → HasSpans ss e → length ss ≤ n → bounds ss e ≡ Ok b → is_set e ≡ false
     → GivesWithin (BeginsWithin ss) (λ a. val a e) b n (low_expr ss e Number n)
-
--- the law: how many variables and calls an expression makes at most, over its nodes
-abbrev pub IntensionSize : Type 0
-IntensionSize = (ss : List Bounds) (n : ℕ) (e : Expr) → made (low_intension ss n e) + length (calls_of (low_intension ss n e)) ≤ 132 * nodes e

@@ -2,8 +2,8 @@
 //!
 //! It stands on `xf_num`, `xs_model`, `xs_expr`, `fz_model` and `lo_base`. `lower_intension` appends what states an
 //! expression (`specs/Lowering.antt`) to any `Emit`; what each operator is lowered to stands in `specs/Rules.antt`.
-//! It says exactly which items are appended. It does not say yet that they mean what the expression says, that
-//! their new variables follow from those before, or how many they are.
+//! It says exactly which items are appended. `lo_meaning` has the laws of what they mean, `lo_steps` those of their new
+//! variables and of how many there are. The program does not lower expressions yet.
 #![tactic(auto)]
 
 mod define;
