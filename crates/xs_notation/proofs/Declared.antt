@@ -1,7 +1,7 @@
 -- Each variable of declarations is denoted by its word.
-use Rattle.std.proofs.Common.{◌≡◌, ◌≢◌, ℕ, zero, suc, ◌+◌, ◌-◌, ◌<◌, ◌≤◌, ◌^◌, Bool, true, false, List, [], ◌∷◌, ◌++◌, length, map, take, get_or, is_some, refl, ap, sym, subst, ◌∙◌, arith, ℤ, Option, None, Some, length-append, inl, inr}
-use Rattle.std.specs.Prelude.{◌⊎◌, IsSome}
-use Rattle.std.specs.List.{AllByRecursion, AllPairs, flat_map}
+use Rattle.std.proofs.Common.{◌≡◌, ◌≢◌, ℕ, zero, suc, ◌+◌, ◌-◌, ◌<◌, ◌≤◌, ◌^◌, List, [], ◌∷◌, length, take, get_or, is_some, refl, ap, sym, subst, ◌∙◌, arith, Option, None, Some, length-append, inl, inr}
+use Rattle.std.specs.Prelude.{◌⊎◌}
+use Rattle.std.specs.List.{AllByRecursion, AllPairs}
 use Rattle.std.proofs.lemmas.Bool.{cases_lt}
 use Rattle.std.proofs.lemmas.List.{get_or_append_left, get_or-append-add, length-map}
 use Rattle.xf_num.specs.Span.{Bounds}
@@ -9,8 +9,8 @@ use Rattle.xs_model.specs.declared.decl.Decl.{Decl}
 use Rattle.xs_model.specs.declared.decl.Decl.TheVariants.{One, Array}
 use Rattle.xs_model.specs.Cells.{IsDefinedPlace}
 use Rattle.xs_model.specs.Denotes.{Denotes, DenotesIn}
-use Rattle.xs_model.specs.Names.{cell_word, defined, row_major, words, words_of}
-use Rattle.xs_model.specs.Outline.{IsSoundOutline, Outline, defined_count, names_in, outline_of, outlines_of, variables_in}
+use Rattle.xs_model.specs.Names.{defined, words, words_of}
+use Rattle.xs_model.specs.Outline.{IsSoundOutline, names_in, outline_of, outlines_of, variables_in}
 use Rattle.xs_model.specs.Sound.{IsSoundDecl, cells_of, name_of, names_of}
 use Rattle.xs_model.specs.Table.{IsAddressable}
 use Rattle.xs_model.proofs.NamesLemmas.{sound_outline}

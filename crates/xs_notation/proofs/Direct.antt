@@ -1,5 +1,5 @@
 -- How a direct word is cut into its name and its brackets.
-use Rattle.std.proofs.Common.{◌≡◌, ℕ, suc, ◌+◌, ◌-◌, ◌<◌, ◌≤◌, ◌^◌, ◌==◌, Bool, true, false, not, ◌&&◌, ◌||◌, cond, if◌then◌else◌, nat_le, nat_lt, List, [], ◌∷◌, ◌++◌, length, map, take, drop, refl, ap, sym, subst, ◌∙◌, arith, ℤ, pos, Option, None, Some, Ok, Err, codes, append_assoc, append-nil, length-append, inl, inr}
+use Rattle.std.proofs.Common.{◌≡◌, ℕ, suc, ◌-◌, ◌<◌, ◌≤◌, ◌^◌, ◌==◌, Bool, true, false, not, ◌&&◌, ◌||◌, if◌then◌else◌, nat_le, nat_lt, List, [], ◌∷◌, ◌++◌, length, map, take, drop, refl, ap, subst, ◌∙◌, arith, pos, None, Some, Ok, Err, codes, append-nil, length-append, inl, inr}
 use lib.Pointwise.{pointwise}
 use Rattle.std.specs.Prelude.{nat_eq, ◌⊎◌}
 use Rattle.std.proofs.lemmas.Bool.{cases_lt}
@@ -11,14 +11,12 @@ use borrow.Author.Tests.{ne_eqb, le-leb, lt-leb, lt-ltb}
 use Rattle.xs_expr.specs.Tokens.{is_in_word}
 use Rattle.xs_fields.specs.Conditions.{all_meet, judged, meets}
 use Rattle.xs_fields.specs.Integers.{integer_of, is_small}
-use Rattle.xs_fields.specs.Sizes.{brackets_of, inner_of, integer_in, size_meets, size_of}
-use Rattle.xs_fields.specs.Variables.{bracket_in, bracket_inside, bracket_list, bracket_meets, bracket_of, brackets_from, first_part, is_small_bracket, name_in, word_of}
+use Rattle.xs_fields.specs.Sizes.{inner_of, integer_in, size_meets, size_of}
+use Rattle.xs_fields.specs.Variables.{bracket_in, bracket_inside, bracket_list, bracket_meets, bracket_of, brackets_from, is_small_bracket}
 use Rattle.xs_fields.specs.Words.{is_byte, onto_first, parts}
 use Rattle.xs_fields.specs.declared.condition.Condition.{Condition}
 use Rattle.xs_fields.specs.declared.condition.Condition.TheVariants.{Known, Nesting, Spelling, Magnitude, Naming, Counting, Fitting}
-use Rattle.xs_fields.specs.declared.variable.Bracket.{Bracket}
 use Rattle.xs_fields.specs.declared.variable.Bracket.TheVariants.{At}
-use Rattle.xs_fields.specs.declared.variable.Word.{Word}
 use Rattle.xs_model.specs.Denotes.{bracketed, SpellsIndex, SpellIndices}
 use Rattle.xs_model.specs.Identifier.{is_digit, is_letter, is_word, IsIdentifier}
 use Rattle.xs_fields.specs.Identifiers.{identifier_meets}

@@ -1,12 +1,12 @@
 -- A direct word of a variable is read as that variable.
-use Rattle.std.proofs.Common.{◌≡◌, ◌≢◌, ℕ, zero, suc, ◌+◌, ◌<◌, ◌≤◌, ◌^◌, Bool, true, false, not, ◌&&◌, cond, if◌then◌else◌, List, [], ◌∷◌, ◌++◌, drop, length, map, get_or, slice_get, refl, ap, sym, subst, ◌∙◌, arith, ℤ, pos, Option, None, Some, Result, Ok, Err, append-nil, inl, inr}
+use Rattle.std.proofs.Common.{◌≡◌, ◌≢◌, ℕ, zero, suc, ◌+◌, ◌<◌, ◌≤◌, Bool, true, false, ◌&&◌, if◌then◌else◌, List, [], ◌∷◌, drop, length, map, get_or, slice_get, refl, ap, sym, subst, ◌∙◌, arith, Option, None, Some, Ok, Err, inl, inr}
 use Rattle.std.specs.Prelude.{◌⊎◌}
-use Rattle.std.specs.List.{AllByRecursion, AllPairs, filter_map, flat_map}
+use Rattle.std.specs.List.{AllByRecursion, AllPairs, flat_map}
 use Rattle.std.specs.Option.{option_map}
 use Rattle.std.specs.Result.{is_ok}
 use Rattle.std.proofs.lemmas.Bool.{cases_lt}
 use Rattle.std.proofs.lemmas.Option.{slice_get-map}
-use Rattle.xs_fields.specs.Cells.{are_inside, covered_places, declared_at, name_meets, reached, reached_at, unless_none, variables_at, variables_in as reached_in, variables_of}
+use Rattle.xs_fields.specs.Cells.{are_inside, covered_places, declared_at, name_meets, reached, reached_at, unless_none, variables_at, variables_in as reached_in}
 use Rattle.xs_fields.specs.Conditions.{all_meet, first_missed}
 use Rattle.xs_fields.specs.Identifiers.{identifier_meets}
 use Rattle.xs_fields.specs.Integers.{integer_of}
@@ -17,11 +17,11 @@ use Rattle.xs_fields.specs.declared.condition.Condition.TheVariants.{Known, Nest
 use Rattle.xs_fields.specs.declared.variable.Bracket.{Bracket}
 use Rattle.xs_fields.specs.declared.variable.Word.{Word}
 use Rattle.xs_fields.proofs.NamingLemmas.{position_is}
-use Rattle.xs_model.specs.Denotes.{Denotes, SpellIndices, bracketed}
+use Rattle.xs_model.specs.Denotes.{Denotes, bracketed}
 use Rattle.xs_model.specs.Names.{row_major}
 use Rattle.xs_model.specs.Outline.{IsNamed, IsSoundOutline, Outline, cell_numbers, defined_count, names_in, number_cells, numbers_from, sizes_at}
 use Rattle.xs_model.specs.Table.{IsAddressable}
-use Rattle.xs_model.specs.declared.expr.Expr.{Expr, Var}
+use Rattle.xs_model.specs.declared.expr.Expr.{Var}
 use Rattle.xs_model.proofs.FindLemmas.{sound_at}
 use Rattle.xs_model.proofs.NamesLemmas.{sizes_of_outline}
 use Rattle.xs_notation.specs.Terms.{direct_meets, settled, term_by, term_in, term_meets, term_meets_by, term_of, variable_in}

@@ -1,19 +1,19 @@
 -- What is written is read again.
-use Rattle.std.proofs.Common.{◌≡◌, ℕ, suc, ◌<◌, ℤ, pos, negsuc, nat_abs, int_le, List, [], ◌∷◌, ◌++◌, append_assoc, append-nil, codes, map, length, get_or, refl, sym, ap, subst, ◌∙◌, arith, rules, Bool, true, false, not, ◌&&◌, cond, if◌then◌else◌, Option, Some, None, Ok, All}
+use Rattle.std.proofs.Common.{◌≡◌, ℕ, suc, ◌<◌, ℤ, nat_abs, List, [], ◌∷◌, ◌++◌, append_assoc, codes, map, length, get_or, refl, sym, ap, subst, ◌∙◌, arith, rules, Bool, true, false, not, ◌&&◌, Some, All}
 use Rattle.std.specs.Fmt.{signed_decimal}
 use Rattle.std.specs.List.{flat_map, list_all}
 use Rattle.std.proofs.lemmas.List.Elements.{All-head, All-tail}
 use Rattle.std.proofs.lemmas.List.Folds.{list_all-append}
 use borrow.Author.Tests.{le-leb}
 use Rattle.xs_expr.specs.Bounds.{HasVariable, HasVariables}
-use Rattle.xs_expr.specs.Shape.{HasShape, IsCount, ArePlaced, IsShaped, is_set, is_set_layer, is_set_operator}
+use Rattle.xs_expr.specs.Shape.{HasShape, IsCount, ArePlaced, IsShaped, is_set, is_set_layer}
 use Rattle.xs_expr.specs.Shaped.{is_count, is_exponent, is_exponent_layer, are_no_sets as are_no_set_exprs, are_placed as are_placed_exprs}
 use Rattle.xs_expr.specs.Text.{joined_from, name_of, written}
 use Rattle.xs_expr.specs.Tokens.{is_in_word, tokens_of}
 use Rattle.xs_expr.specs.Words.{is_exponent_value}
 use Rattle.xs_expr.proofs.Every.{every-operands, every-node, every-var}
 use Rattle.xs_expr.proofs.Shapes.{is-count, are-placed}
-use Rattle.xs_fields.specs.Conditions.{all_meet, first_missed, meets}
+use Rattle.xs_fields.specs.Conditions.{all_meet, meets}
 use Rattle.xs_fields.specs.Integers.{integer_of, is_small}
 use Rattle.xs_fields.specs.declared.condition.Condition.{Condition}
 use Rattle.xs_fields.specs.declared.condition.Condition.TheVariants.{Known, Nesting, Spelling, Magnitude, Naming, Counting, Fitting}
@@ -21,16 +21,15 @@ use Rattle.xs_model.specs.Outline.{Outline}
 use Rattle.xs_model.specs.Sound.{IsSmall, magnitudes}
 use Rattle.xs_model.specs.declared.expr.Op.{Op}
 use Rattle.xs_model.specs.declared.expr.Op.TheVariants.{Neg, Abs, Sqr, Add, Mul, Sub, Dist, Div, Mod, Pow, Min, Max, Lt, Le, Gt, Ge, Ne, Eq, Set, In, NotIn, Not, And, Or, Xor, Iff, Imp, If}
-use Rattle.xs_model.specs.declared.expr.Expr.{Expr, Int, Var, Node, out-Expr, roll-Expr, out-roll-Expr, map-Expr, ind-Expr, every_here-Expr, the_lemmas as expr_lemmas}
+use Rattle.xs_model.specs.declared.expr.Expr.{Expr, Int, Var, Node, roll-Expr, map-Expr, ind-Expr, every_here-Expr, the_lemmas as expr_lemmas}
 use Rattle.xs_model.specs.declared.expr.Expr.TheVariants.{rolls-Int, rolls-Var, rolls-Node}
 use Rattle.xs_model.specs.declared.expr.Expr.TheOpen.{Expr-F}
-use Rattle.xs_notation.specs.Forms.{Form, form, form_step, are_formed, are_no_sets, are_placed}
+use Rattle.xs_notation.specs.Forms.{Form, form, are_formed, are_no_sets, are_placed}
 use Rattle.xs_notation.specs.Law.{HasSmallInteger, HasSmallIntegers}
 use Rattle.xs_notation.specs.Notation.{flat, behind, listed, are_plain}
 use Rattle.xs_notation.specs.Reading.{expr_of, words_in, words_meet}
 use Rattle.xs_notation.specs.Terms.{settled, term_by, term_in, term_meets, term_meets_by, term_of}
-use Rattle.xs_notation.specs.declared.raw.Raw.{Raw, Word, Call, the_lemmas}
-use Rattle.xs_notation.specs.declared.raw.Raw.TheOpen.{Raw-F}
+use Rattle.xs_notation.specs.declared.raw.Raw.{Raw, Word, Call}
 use Rattle.xs_notation.proofs.Decimals.{decimal-spells, integer-is, integer-bytes, integer-some}
 use Rattle.xs_notation.proofs.Flats.{flat-Word, flat-Call, plain-Word, plain-Call}
 use Rattle.xs_notation.proofs.Marked.{IsOneWord, Stops, high-byte, name-word, plain-word, word-token}
@@ -277,9 +276,9 @@ module _ (os : List Outline) (ws : List (List ℕ)) (direct : (v : ℕ) → v < 
   at-node op ps s v m =
       let e : Expr = Node op (kept ps) in
       let below = operands ps
-          (every-operands HasShape e op (kept ps) (kept ps) refl refl s)
-          (every-operands (HasVariable (length ws)) e op (kept ps) (kept ps) refl refl v)
-          (every-operands HasSmallInteger e op (kept ps) (kept ps) refl refl m) in
+      (every-operands HasShape e op (kept ps) (kept ps) refl refl s)
+      (every-operands (HasVariable (length ws)) e op (kept ps) (kept ps) refl refl v)
+      (every-operands HasSmallInteger e op (kept ps) (kept ps) refl refl m) in
       let own : IsCount op (length (kept ps)) × ArePlaced op (kept ps) = every-node HasShape e op (kept ps) refl s in
       let shape : IsCount op (length (exprs below.pairs)) × ArePlaced op (exprs below.pairs) = subst (λ es. IsCount op (length es) × ArePlaced op es) (sym below.same) own in
       subst (λ es. IsBack (Node op es)) below.same (node-back op below.pairs shape.0 shape.1)

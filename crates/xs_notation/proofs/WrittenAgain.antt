@@ -1,29 +1,28 @@
 -- The text of an expression is answered with the expression.
-use Rattle.std.proofs.Common.{◌≡◌, ℕ, ◌+◌, ◌<◌, ◌≤◌, ◌^◌, List, [], ◌∷◌, ◌++◌, append-nil, map, length, get_or, refl, sym, ap, ◌∙◌, arith, Bool, true, false, not, ◌&&◌, Option, Some, None, Ok}
+use Rattle.std.proofs.Common.{◌≡◌, ℕ, ◌<◌, ◌^◌, List, [], ◌∷◌, append-nil, map, length, get_or, refl, sym, ap, ◌∙◌, arith, Bool, true, false, not, ◌&&◌, Ok}
 use Rattle.std.specs.Prelude.{sum}
 use Rattle.std.specs.List.{AllByRecursion}
 use Rattle.std.proofs.lemmas.List.Sums.{sum_by-cons}
 use Rattle.xs_expr.specs.Text.{written}
 use Rattle.xs_expr.specs.Tokens.{tokens_of}
-use Rattle.xs_fields.specs.Conditions.{answer_on, first_missed}
+use Rattle.xs_fields.specs.Conditions.{answer_on}
 use Rattle.xs_fields.specs.declared.condition.Condition.{Condition}
 use Rattle.xs_fields.specs.declared.condition.Condition.TheVariants.{Known, Nesting, Spelling, Magnitude, Naming, Counting, Fitting}
 use Rattle.xs_model.specs.Names.{words}
 use Rattle.xs_model.specs.Outline.{Outline, outlines_of}
-use Rattle.xs_model.specs.Sound.{IsAccepted, cells_of}
+use Rattle.xs_model.specs.Sound.{cells_of}
 use Rattle.xs_model.specs.declared.decl.Decl.{Decl}
 use Rattle.xs_model.specs.declared.expr.Expr.{Expr}
-use Rattle.xs_model.specs.declared.instance.Instance.{Instance}
 use Rattle.xs_notation.specs.Forms.{form, form_meets}
 use Rattle.xs_notation.specs.Law.{AreDeclared, IsReadAgain, IsWritable, WrittenAgain}
 use Rattle.xs_notation.specs.Nesting.{is_deeper, nesting_meets}
 use Rattle.xs_notation.specs.Notation.{flat}
 use Rattle.xs_notation.specs.Parse.{parse}
-use Rattle.xs_notation.specs.Reading.{expr_at, expr_in, expr_meets, raw_meets, tree_meets, words_meet}
+use Rattle.xs_notation.specs.Reading.{expr_at, expr_in, expr_meets, raw_meets, words_meet}
 use Rattle.xs_notation.specs.declared.raw.Raw.{Raw}
 use Rattle.xs_notation.proofs.Again.{parse-again}
 use Rattle.xs_notation.proofs.Declared.{denotes, distinct-all, few-all, sound-all}
-use Rattle.xs_notation.proofs.ReadBack.{IsBack, back}
+use Rattle.xs_notation.proofs.ReadBack.{back}
 use Rattle.xs_notation.proofs.Reached.{IsDirect, direct-is, none-missed}
 
 both : (a b : Bool) → a ≡ true → b ≡ true → (a && b) ≡ true
