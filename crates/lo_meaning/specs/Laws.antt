@@ -1,14 +1,12 @@
 -- What the items mean that an expression is lowered to.
-use Rattle.std.specs.Prelude.{◌≡◌, ℕ, ◌+◌, ◌*◌, ◌≤◌, ℤ, pos, true, false, List, [], ◌∷◌, ◌++◌, length, take, Ok}
+use Rattle.std.specs.Prelude.{◌≡◌, ℕ, ◌≤◌, ℤ, pos, true, false, List, [], ◌∷◌, ◌++◌, length, take, Ok}
 use Rattle.fz_model.specs.Meaning.{number}
 use Rattle.lo_base.specs.Item.{Item, made}
-use Rattle.lo_base.specs.Lowered.{calls_of}
 use Rattle.lo_base.specs.Solved.{Meets, Extends}
-use Rattle.lo_base.specs.Stepwise.{Stepwise}
 use Rattle.lo_terms.specs.declared.term.Mode.TheVariants.{Number}
 use Rattle.lo_terms.specs.declared.term.Operand.{Operand}
 use Rattle.lo_terms.specs.Emitted.{arg_of}
-use Rattle.lo_terms.specs.Lowering.{Low, low_expr, low_intension, nodes}
+use Rattle.lo_terms.specs.Lowering.{Low, low_expr, low_intension}
 use Rattle.xf_num.specs.Span.{Bounds}
 use Rattle.xs_model.specs.declared.expr.Expr.{Expr}
 use Rattle.xs_model.specs.Value.{val}
