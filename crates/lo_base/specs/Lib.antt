@@ -5,3 +5,4 @@ pub mod Held
 pub mod Partway
 pub mod Solved
 pub mod Stepwise
+pub mod Before

@@ -22,3 +22,8 @@ pub record Extends (a : List ℤ) (xs : List Item) : Type 0 where
 pub record Means (P : List ℤ → Type 0) (n : ℕ) (xs : List Item) : Type 0 where
   pub sound : (a c : List ℤ) → length a ≡ n → made xs ≤ length c → Meets n xs (a ++ c) → P a
   pub complete : (a : List ℤ) → length a ≡ n → P a → Extends a xs
+
+-- the same among values before of which D holds
+pub record MeansWithin (D P : List ℤ → Type 0) (n : ℕ) (xs : List Item) : Type 0 where
+  pub sound : (a c : List ℤ) → length a ≡ n → made xs ≤ length c → D a → Meets n xs (a ++ c) → P a
+  pub complete : (a : List ℤ) → length a ≡ n → D a → P a → Extends a xs

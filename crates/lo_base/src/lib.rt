@@ -3,8 +3,9 @@
 //! It stands on `xf_num`, `xf_text` and `fz_model`. `Emit` is what takes variables and calls; its meanings
 //! `grew` and `began` say what was appended, as one list of items in the order in which they came
 //! (`specs/Item.antt`, `specs/Emit.antt`). `Held` is the `Emit` that keeps its items, and makes a model of them.
-//! `specs/Solved.antt` says when values meet items and what items mean, `specs/Stepwise.antt` when the values of
-//! the new variables follow from those before; `one_extension` and `joins` are the laws on that.
+//! `specs/Solved.antt` says when values meet items and what items mean, `specs/Before.antt` which variables calls
+//! speak of, and `specs/Stepwise.antt` when the values of the new variables follow from those before;
+//! `one_extension` and `joins` are the laws on that.
 #![tactic(auto)]
 
 mod emit;

@@ -1,2 +1,1 @@
 pub mod DifferentLemmas
-pub mod FormLemmas

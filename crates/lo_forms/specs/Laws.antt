@@ -1,32 +1,32 @@
--- What is said of the items that constraints are lowered to.
-use Rattle.std.specs.Prelude.{ℕ, ◌+◌, ◌*◌, ◌≤◌, ℤ, List, length}
+-- What is said of the items that `allDifferent` is lowered to.
+use Rattle.std.specs.Prelude.{ℕ, ◌+◌, ◌*◌, ◌<◌, ◌≤◌, List, length, map, sum}
 use Rattle.std.specs.List.{AllByRecursion}
-use Rattle.xs_model.specs.declared.instance.Constraint.{Constraint}
-use Rattle.xs_model.specs.Instance.{Holds}
-use Rattle.xs_model.specs.Sound.{IsSoundConstraint, items_of}
+use Rattle.fz_model.specs.Size.{call_leaves}
+use Rattle.xs_model.specs.Instance.{AreDifferent}
+use Rattle.xs_model.specs.Value.{at}
+use Rattle.lo_base.specs.Before.{AreCallsBefore}
 use Rattle.lo_base.specs.Item.{made}
 use Rattle.lo_base.specs.Lowered.{calls_of}
 use Rattle.lo_base.specs.Solved.{Means}
 use Rattle.lo_base.specs.Stepwise.{Stepwise}
-use Rattle.lo_forms.specs.Form.{low_form, low_all}
+use Rattle.lo_forms.specs.Different.{low_different}
 
--- the items of a constraint over the variables before n mean that it holds
-abbrev pub FormMeans : Type 0
-FormMeans = (n : ℕ) (c : Constraint) → IsSoundConstraint n c → Means (λ a. Holds c a) n (low_form n c)
+-- the variables of a list are among those before n
+abbrev pub AreBelow : ℕ → List ℕ → Type 0
+AreBelow n list = AllByRecursion (λ v. v < n) list
 
-abbrev pub FormStepwise : Type 0
-FormStepwise = (n : ℕ) (c : Constraint) → IsSoundConstraint n c → Stepwise n (low_form n c)
+-- the law: the items mean that the values of the list differ
+abbrev pub DifferentMeans : Type 0
+DifferentMeans = (n : ℕ) (list : List ℕ) → AreBelow n list → Means (λ a. AreDifferent (map (at a) list)) n (low_different list)
 
--- variables and calls, in terms of the constraint's items
-abbrev pub FormSize : Type 0
-FormSize = (n : ℕ) (c : Constraint) → made (low_form n c) + length (calls_of (low_form n c)) ≤ 64 * ((1 + items_of c) * (1 + items_of c))
+-- the law: each new variable is settled by an item, once the variables before it have their values
+abbrev pub DifferentStepwise : Type 0
+DifferentStepwise = (n : ℕ) (list : List ℕ) → Stepwise n (low_different list)
 
--- all of them hold
-abbrev pub AllHold : List Constraint → List ℤ → Type 0
-AllHold cs a = AllByRecursion (λ c. Holds c a) cs
+-- the law: the calls speak of the variables before n alone
+abbrev pub DifferentBefore : Type 0
+DifferentBefore = (n : ℕ) (list : List ℕ) → AreBelow n list → AreCallsBefore n (calls_of (low_different list))
 
-abbrev pub AllMean : Type 0
-AllMean = (n : ℕ) (cs : List Constraint) → AllByRecursion (IsSoundConstraint n) cs → Means (AllHold cs) n (low_all n cs)
-
-abbrev pub AllStepwise : Type 0
-AllStepwise = (n : ℕ) (cs : List Constraint) → AllByRecursion (IsSoundConstraint n) cs → Stepwise n (low_all n cs)
+-- the law: how many variables the items make, and how many leaves the calls have
+abbrev pub DifferentSize : Type 0
+DifferentSize = (list : List ℕ) → made (low_different list) + sum (map call_leaves (calls_of (low_different list))) ≤ 64 * ((1 + length list) * (1 + length list))

@@ -1,3 +1,3 @@
+pub mod Constraint
 pub mod Different
-pub mod Form
 pub mod Laws

@@ -4,17 +4,18 @@ ghost use Rattle.std.specs.Prelude.{◌≡◌, ◌+◌, ◌≤◌, ◌^◌, OnOk
 ghost use Rattle.xs_model.specs.declared.instance.Constraint.TheVariants.{AllDifferent};
 ghost use Rattle.xf_text.specs.Outside.{Rose};
 ghost use Rattle.xs_model.specs.Names.{words};
-ghost use Rattle.xs_model.specs.Sound.{IsAccepted};
+ghost use Rattle.xs_model.specs.Accepted.{IsAccepted};
 ghost use Rattle.lo_base.specs.Item.{made};
-ghost use Rattle.lo_forms.specs.Form.{low_form};
+ghost use Rattle.lo_forms.specs.Constraint.{IsAllDifferent, OfList};
+ghost use Rattle.lo_forms.specs.Different.{low_different};
 
 use crate::different::lower_different;
 use lo_base::{Emit, EmitStop};
 use std::alloc::Global;
 use xs_model::{Constraint, Instance};
 
-/// Appends the variables and calls that a constraint of an accepted instance is lowered to, to an object that was
-/// made with the instance's variables and has at most 2^60 variables. On an `Err` it began them.
+/// Appends what the list of a constraint, an `allDifferent` of an accepted instance, is lowered to, to an object that
+/// was made with the instance's variables and has at most 2^60 variables. On an `Err` it began that.
 pub fn lower<E: Emit>(
     alloc: Global,
     c: &Constraint,
@@ -23,15 +24,18 @@ pub fn lower<E: Emit>(
 ) -> Result<(), EmitStop>
     requires accepted { IsAccepted inst.now }
     requires member { Contains inst.now.constraints c.now }
+    requires form { IsAllDifferent c.now }
     requires named { E.named out.old ≡ length (words inst.now.decls) }
     requires room { E.count out.old ≤ 2 ^ 60 }
-    ensures ok { OnOk result (E.grew out.old out.new (low_form (E.count out.old) c.now)) }
-    ensures count { OnOk result (E.count out.new ≡ E.count out.old + made (low_form (E.count out.old) c.now)) }
-    ensures stopped { OnErr result (E.began out.old out.new (low_form (E.count out.old) c.now)) }
+    ensures ok { OnOk result (OfList c.now (λ list. E.grew out.old out.new (low_different list))) }
+    ensures count { OnOk result (OfList c.now (λ list. E.count out.new ≡ E.count out.old + made (low_different list))) }
+    ensures stopped { OnErr result (OfList c.now (λ list. E.began out.old out.new (low_different list))) }
     ensures cause { IsErrOf result EmitStop.Failed → Rose (E.faults out.old) (E.faults out.new) }
 {
     match c {
         Constraint::AllDifferent { list } => lower_different(alloc, list.as_slice(), out),
+        // Another form.
+        Constraint::Intension { .. } => Ok(()),
     }
 }
 

@@ -21,12 +21,8 @@ fn differ_from<E: Emit>(alloc: Global, x: u32, others: &[u32], out: &mut E) -> R
     Ok(())
 }
 
-/// Each two of the variables differ.
-pub(crate) fn lower_different<E: Emit>(
-    alloc: Global,
-    list: &[u32],
-    out: &mut E,
-) -> Result<(), EmitStop>
+/// Appends the calls that say that each two of the variables differ. On an `Err` it began them.
+pub fn lower_different<E: Emit>(alloc: Global, list: &[u32], out: &mut E) -> Result<(), EmitStop>
     ensures ok { OnOk result (E.grew out.old out.new (low_different list.now)) }
     ensures count { OnOk result (E.count out.new ≡ E.count out.old) }
     ensures stopped { OnErr result (E.began out.old out.new (low_different list.now)) }

@@ -1,29 +1,25 @@
-//! What constraints are lowered to, and what that means.
+//! What `allDifferent` is lowered to, and what that means.
 
-ghost use Rattle.lo_forms.specs.Laws.{FormMeans, FormStepwise, FormSize, AllMean, AllStepwise};
+ghost use Rattle.lo_forms.specs.Laws.{DifferentMeans, DifferentStepwise, DifferentBefore, DifferentSize};
 
-/// What a sound constraint is lowered to means that it holds: values of the variables before meet the calls, by
-/// some values of the new variables, exactly where the constraint holds of them.
-pub fn form_means()
-    ensures { FormMeans }
+/// What a list is lowered to means that its values differ: values of the variables before meet the calls exactly
+/// where those of the list differ pairwise.
+pub fn different_means()
+    ensures { DifferentMeans }
 {}
 
-/// What a sound constraint is lowered to leaves its new variables one list of values at most.
-pub fn form_stepwise()
-    ensures { FormStepwise }
+/// What a list is lowered to leaves its new variables one list of values at most.
+pub fn different_stepwise()
+    ensures { DifferentStepwise }
 {}
 
-/// How many variables a constraint makes, and how many calls.
-pub fn form_size()
-    ensures { FormSize }
+/// What a list is lowered to posts calls that speak of the variables before alone.
+pub fn different_before()
+    ensures { DifferentBefore }
 {}
 
-/// What sound constraints are lowered to, one after the other, means that all of them hold.
-pub fn all_means()
-    ensures { AllMean }
-{}
-
-/// What sound constraints are lowered to, one after the other, leaves the new variables one list of values at most.
-pub fn all_stepwise()
-    ensures { AllStepwise }
+/// How many variables a list makes, and how many leaves its calls have: together at most 64 times the square of one
+/// more than its length.
+pub fn different_size()
+    ensures { DifferentSize }
 {}

@@ -16,9 +16,9 @@ use Rattle.xs_model.specs.declared.expr.Expr.{Expr, Int as int_expr, Var as var_
 use Rattle.xs_model.specs.declared.expr.Expr.TheVariants.{rolls-Int, rolls-Var, rolls-Node}
 use Rattle.xs_model.specs.declared.expr.Expr.TheOpen.{Expr-F}
 use Rattle.xs_model.specs.Value.{Worth, at, apply, truth as truth_of, is_true, val, worth, second_members}
-use Rattle.xs_expr.specs.Bounds.{bounds, all_ok, and_then, node_bounds, exactly, is_truth, limited, operand, HasSpan, HasSpans}
-use Rattle.xs_expr.specs.Laws.{AreWithin}
-use Rattle.xs_expr.specs.Shape.{IsCount, HasShape, IsShaped, IsExponent, IsExponentLayer, IsMembership, IsPower, AreNoSets, ArePlaced, is_set, is_set_layer, is_set_operator}
+use Rattle.xs_model.specs.Bounds.{bounds, all_ok, and_then, node_bounds, exactly, is_truth, limited, operand, HasSpan, HasSpans}
+use Rattle.xs_model.specs.Spans.{AreWithin}
+use Rattle.xs_model.specs.Shape.{IsCount, HasShape, IsShaped, IsExponent, IsExponentLayer, IsMembership, IsPower, AreNoSets, ArePlaced, is_set, is_set_layer, is_set_operator}
 use Rattle.xs_expr.proofs.Every.{every-operands, every-node, every-var}
 use Rattle.xs_expr.proofs.Exponents.{literal}
 use Rattle.xs_expr.proofs.Layers.{bounds-Node, worth-Int, worth-Var, val-Node, members-Set}

@@ -7,7 +7,7 @@ use Rattle.xs_model.specs.declared.expr.Expr.{Expr, Var, Node, roll-Expr, map-Ex
 use Rattle.xs_model.specs.declared.expr.Expr.TheVariants.{rolls-Int, rolls-Var, rolls-Node}
 use Rattle.xs_model.specs.declared.expr.Expr.TheOpen.{Expr-F}
 use Rattle.xs_model.specs.Value.{Worth, at, val, worth, number, node_worth}
-use Rattle.xs_expr.specs.Bounds.{HasVariable, HasVariables}
+use Rattle.xs_model.specs.Bounds.{HasVariable, HasVariables}
 use Rattle.xs_expr.proofs.Every.{every-operands, every-var}
 use Rattle.xs_expr.proofs.Layers.{worth-Int, worth-Var, worth-Node}
 use Rattle.lo_base.proofs.Solving.{at_front}

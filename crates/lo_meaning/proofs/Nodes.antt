@@ -13,8 +13,8 @@ use Rattle.fz_model.specs.Meaning.{truth, is_one}
 use Rattle.xs_model.specs.declared.expr.Op.{Op}
 use Rattle.xs_model.specs.declared.expr.Op.TheVariants.{Neg, Abs, Sqr, Add, Mul, Sub, Dist, Div, Mod, Pow, Min, Max, Lt, Le, Gt, Ge, Ne, Eq, Set, In, NotIn, Not, And, Or, Xor, Iff, Imp, If}
 use Rattle.xs_model.specs.Value.{at, apply, is_true, is_odd, all_equal, product_from, exponent_of}
-use Rattle.xs_expr.specs.Bounds.{truths, is_truth, is_divisible, limited, operand, node_bounds}
-use Rattle.xs_expr.specs.Shape.{IsCount, IsExponent, is_set_operator}
+use Rattle.xs_model.specs.Bounds.{truths, is_truth, is_divisible, limited, operand, node_bounds}
+use Rattle.xs_model.specs.Shape.{IsCount, IsExponent, is_set_operator}
 use Rattle.xs_expr.proofs.Within.{IsHeld, AreHeld, AreSmall, guarded, limited-is, operand-held, ordered}
 use Rattle.lo_base.specs.Item.{made}
 use Rattle.lo_terms.specs.declared.term.Operand.{Operand}

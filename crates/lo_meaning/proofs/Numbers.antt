@@ -12,7 +12,7 @@ use Rattle.fz_model.specs.declared.model.Arg.TheVariants as arg
 use Rattle.fz_model.specs.Meaning.{truth, numbers, is_zero, is_least, is_greatest, is_element, is_quotient, is_remainder}
 use Rattle.fz_model.proofs.Calls.{equal, equal_met, unequal_met, int_div_says, int_div_met, int_mod_says, int_mod_met, array_int_minimum_says, array_int_minimum_met, array_int_maximum_says, array_int_maximum_met, array_var_int_element_says, array_var_int_element_met}
 use Rattle.xs_model.specs.Value.{absolute, sum_of, product_from, least_of, greatest_of}
-use Rattle.xs_expr.specs.Bounds.{limited, folded_from, truths}
+use Rattle.xs_model.specs.Bounds.{limited, folded_from, truths}
 use Rattle.xs_expr.proofs.Within.{IsHeld, AreHeld, limited-held, limited-is, ordered}
 use Rattle.lo_base.specs.Item.{made}
 use Rattle.lo_terms.specs.declared.term.Operand.{Operand}

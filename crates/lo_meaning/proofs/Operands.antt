@@ -8,7 +8,7 @@ use Rattle.xf_text.specs.declared.fault.Kind.TheVariants.{Logic, Range}
 use Rattle.fz_model.specs.Fixing.{IsBit}
 use Rattle.fz_model.specs.Meaning.{truth}
 use Rattle.xs_model.specs.Value.{at, is_true}
-use Rattle.xs_expr.specs.Bounds.{is_truth, is_within_limit, is_small, limited, logic, operand, truths}
+use Rattle.xs_model.specs.Bounds.{is_truth, is_within_limit, is_small, limited, logic, operand, truths}
 use Rattle.xs_model.specs.Sound.{magnitudes}
 use Rattle.xs_expr.proofs.Within.{AreHeld, AreSmall, IsSmall, guarded, limited-is}
 use Rattle.lo_terms.specs.declared.term.Operand.{Operand}

@@ -9,8 +9,8 @@ use Rattle.xf_num.proofs.Images.{pow-IsImageHull}
 use Rattle.fz_model.specs.declared.builtin.Builtin.TheVariants.{IntTimes}
 use Rattle.xs_model.specs.Sound.{magnitudes}
 use Rattle.xs_model.specs.Value.{power, exponent_of}
-use Rattle.xs_expr.specs.Bounds.{limited}
-use Rattle.xs_expr.specs.Shape.{IsExponent}
+use Rattle.xs_model.specs.Bounds.{limited}
+use Rattle.xs_model.specs.Shape.{IsExponent}
 use Rattle.xs_expr.proofs.Powers.{power-is}
 use Rattle.xs_expr.proofs.Within.{IsHeld, AreSmall, IsSmall, limited-is, ordered}
 use Rattle.lo_base.specs.Item.{made}

@@ -15,7 +15,7 @@ use Rattle.fz_model.proofs.Calls.{equal as equal_is, equal_met, unequal, unequal
 use Rattle.xs_model.specs.declared.expr.Op.{Op}
 use Rattle.xs_model.specs.declared.expr.Op.TheVariants.{Neg, Abs, Sqr, Add, Mul, Sub, Dist, Div, Mod, Pow, Min, Max, Lt, Le, Gt, Ge, Ne, Eq, Set, In, NotIn, Not, And, Or, Xor, Iff, Imp, If}
 use Rattle.xs_model.specs.Value.{at, apply, is_true, all_equal}
-use Rattle.xs_expr.specs.Shape.{is_set_operator}
+use Rattle.xs_model.specs.Shape.{is_set_operator}
 use Rattle.lo_base.specs.Item.{Item, Posted, made}
 use Rattle.lo_base.proofs.Solving.{extends_posted}
 use Rattle.lo_terms.specs.declared.term.Operand.{Operand}

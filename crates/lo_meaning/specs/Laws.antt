@@ -1,8 +1,8 @@
 -- What the items mean that an expression is lowered to.
-use Rattle.std.specs.Prelude.{◌≡◌, ℕ, ◌≤◌, ℤ, pos, true, false, List, [], ◌∷◌, ◌++◌, length, take, Ok}
+use Rattle.std.specs.Prelude.{◌≡◌, ℕ, ◌≤◌, ℤ, pos, true, false, List, [], ◌∷◌, ◌++◌, length, Ok}
 use Rattle.fz_model.specs.Meaning.{number}
-use Rattle.lo_base.specs.Item.{Item, made}
-use Rattle.lo_base.specs.Solved.{Meets, Extends}
+use Rattle.lo_base.specs.Item.{made}
+use Rattle.lo_base.specs.Solved.{Meets, Extends, MeansWithin}
 use Rattle.lo_terms.specs.declared.term.Mode.TheVariants.{Number}
 use Rattle.lo_terms.specs.declared.term.Operand.{Operand}
 use Rattle.lo_terms.specs.Emitted.{arg_of}
@@ -10,19 +10,9 @@ use Rattle.lo_terms.specs.Lowering.{Low, low_expr, low_intension}
 use Rattle.xf_num.specs.Span.{Bounds}
 use Rattle.xs_model.specs.declared.expr.Expr.{Expr}
 use Rattle.xs_model.specs.Value.{val}
-use Rattle.xs_expr.specs.Bounds.{bounds, is_truth, HasSpans}
-use Rattle.xs_expr.specs.Laws.{AreWithin}
-use Rattle.xs_expr.specs.Shape.{IsShaped, is_set}
-
--- The items, the first of whose variables is n, mean what P says of the values before them, among values of which D
--- holds.
-pub record MeansWithin (D P : List ℤ → Type 0) (n : ℕ) (xs : List Item) : Type 0 where
-  pub sound : (a c : List ℤ) → length a ≡ n → made xs ≤ length c → D a → Meets n xs (a ++ c) → P a
-  pub complete : (a : List ℤ) → length a ≡ n → D a → P a → Extends a xs
-
--- the values of the first variables lie within these bounds, place by place
-abbrev pub BeginsWithin : List Bounds → List ℤ → Type 0
-BeginsWithin ss a = AreWithin ss (take (length ss) a)
+use Rattle.xs_model.specs.Bounds.{bounds, is_truth, HasSpans}
+use Rattle.xs_model.specs.Spans.{BeginsWithin}
+use Rattle.xs_model.specs.Shape.{IsShaped, is_set}
 
 -- the law: what states an expression that is no set, and whose bounds are those of truth values, means that its value
 -- is 1

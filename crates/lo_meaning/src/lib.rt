@@ -3,7 +3,7 @@
 //! It stands on `xf_num`, `xf_problem`, `xf_text`, `xs_model`, `xs_expr`, `fz_model`, `lo_base` and `lo_terms`. It
 //! holds no code: its functions are laws of what `lo_terms` lowers expressions to. What is appended for an expression
 //! means that the expression is true, and as a number it gives the expression's value. `lo_steps` has the laws on the
-//! new variables. The program does not use these laws yet.
+//! new variables.
 #![tactic(auto)]
 
 mod laws;

@@ -8,8 +8,8 @@ use Rattle.xs_model.specs.declared.expr.Op.TheVariants.{Neg, Abs, Sqr, Add, Mul,
 use Rattle.xs_model.specs.declared.expr.Expr.{Expr, Int as int_expr, Var as var_expr, Node as node_expr, the_lemmas, roll-Expr, out-Expr, map-Expr, ind-Expr}
 use Rattle.xs_model.specs.declared.expr.Expr.TheVariants.{rolls-Int, rolls-Var, rolls-Node}
 use Rattle.xs_model.specs.declared.expr.Expr.TheOpen.{Expr-F}
-use Rattle.xs_expr.specs.Bounds.{HasSpan, HasSpans}
-use Rattle.xs_expr.specs.Shape.{IsCount, HasShape, IsShaped, AreNoSets, ArePlaced, is_set, is_set_layer, is_set_operator}
+use Rattle.xs_model.specs.Bounds.{HasSpan, HasSpans}
+use Rattle.xs_model.specs.Shape.{IsCount, HasShape, IsShaped, AreNoSets, ArePlaced, is_set, is_set_layer, is_set_operator}
 use Rattle.xs_expr.proofs.Every.{every-operands, every-node, every-var}
 use Rattle.lo_base.specs.Item.{made}
 use Rattle.lo_base.specs.Solved.{Meets}
@@ -22,7 +22,7 @@ use Rattle.lo_terms.specs.Emitted.{Out}
 use Rattle.lo_terms.specs.Rules.{terms_of, node, literal, variable, operand_mode}
 use Rattle.lo_terms.specs.Lowering.{Low, low_expr, low_operands, single, own_low_of, span_of, has_written, low_intension}
 use Rattle.lo_terms.proofs.LowerLemmas.{low-Int, low-Var, low-Node}
-use Rattle.lo_steps.specs.Laws.{IntensionStepwise}
+use Rattle.lo_steps.specs.Laws.{IntensionStepwise, IntensionBefore}
 use Rattle.lo_steps.proofs.Steps.{AllBefore, all_before_more, all_before_join, AllBits, all_bits_join, Rises, rises_nil, rises_join, rises_stepwise, Steps, Tells, steps_then, tells_then, tells_number}
 use Rattle.lo_steps.proofs.Nodes.{Known, tells_literal, steps_literal, steps_variable, tells_as_truth, steps_node}
 
@@ -222,3 +222,6 @@ module _ (ss : List Bounds) where
 
 pub intension_stepwise : IntensionStepwise
 intension_stepwise ss n e d s le = rises_stepwise Open n (low_intension ss n e) (λ b. tt) ((says ss e d s n le).stands Stated).rises
+
+pub intension_before : IntensionBefore
+intension_before ss n e d s le = ((says ss e d s n le).stands Stated).rises.calls

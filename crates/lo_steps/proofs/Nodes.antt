@@ -8,7 +8,7 @@ use Rattle.fz_model.specs.declared.builtin.Builtin.{Builtin}
 use Rattle.fz_model.specs.declared.builtin.Builtin.TheVariants.{IntEq, IntNe, IntLe, IntLt, IntEqReif, IntNeReif, IntLeReif, IntLtReif, IntAbs, IntTimes, IntDiv, IntMod, ArrayIntMinimum, ArrayIntMaximum, Bool2Int, BoolEqReif, BoolLeReif, BoolNot, BoolXor, BoolClause, ArrayBoolAnd, ArrayBoolOr, SetIn}
 use Rattle.fz_model.specs.declared.model.Arg.TheVariants as arg
 use Rattle.fz_model.proofs.Calls.{number-Int}
-use Rattle.fz_model.proofs.Fixing.{int_abs_fixes, bool2int_fixes, array_int_minimum_fixes, array_int_maximum_fixes}
+use Rattle.fz_model.proofs.Fixing.{before-Set, int_abs_fixes, bool2int_fixes, array_int_minimum_fixes, array_int_maximum_fixes}
 use Rattle.lo_base.specs.Item.{made}
 use Rattle.lo_terms.specs.declared.term.Mode.{Mode}
 use Rattle.lo_terms.specs.declared.term.Mode.TheVariants.{Number, Logic, Stated}
@@ -17,10 +17,10 @@ use Rattle.lo_terms.specs.declared.term.Term.{Term}
 use Rattle.lo_terms.specs.declared.term.Term.TheVariants.{Int, Truth, Var}
 use Rattle.lo_terms.specs.Emitted.{Out, Outs, arg_of, list_of, kept, after, after_all, integer_of_one, integer_of_two, integer_of_sum, truth_of_two, truth_of_list, truth_of_one, truth_of_number}
 use Rattle.lo_terms.specs.Rules.{terms_of, operand_at, term_at, minus_one, sum_coefficients, difference, distance, product, product_of, powers, steps_to, choice, equalities, all_equal, equal, comparisons, integer_term, written_member, some_equal, member_among, member, no_member, parity, parity_of, number_node, truth_node, gives_truth, counted, tested, as_number, as_truth, posting, posting_clause, stated_equalities, stated_equal, asserted, stated_written, stated_member_among, stated_member, stated_node, node, literal_truth, literal, variable}
-use Rattle.xs_expr.specs.Bounds.{truths}
+use Rattle.xs_model.specs.Bounds.{truths}
 use Rattle.xs_model.specs.declared.expr.Op.{Op}
 use Rattle.xs_model.specs.declared.expr.Op.TheVariants.{Neg, Abs, Sqr, Add, Mul, Sub, Dist, Div, Mod, Pow, Min, Max, Lt, Le, Gt, Ge, Ne, Eq, Set, In, NotIn, Not, And, Or, Xor, Iff, Imp, If}
-use Rattle.lo_steps.proofs.Steps.{num, Before, AllBefore, before_more, all_before_more, AllBits, is_not, Rises, rises_nil, rises_posted, Steps, Tells, StepsAll, steps_standing, tells_standing, steps_then, tells_then, steps_none, steps_more, steps_one, steps_two, steps_list, steps_sum, steps_place, tells_two, tells_xor, tells_list, tells_set, tells_number, tells_not, steps_posted}
+use Rattle.lo_steps.proofs.Steps.{num, Before, AllBefore, before_more, all_before_more, before_arg, before_list, AllBits, is_not, Rises, rises_nil, rises_posted, Steps, Tells, StepsAll, steps_standing, tells_standing, steps_then, tells_then, steps_none, steps_more, steps_one, steps_two, steps_list, steps_sum, steps_place, tells_two, tells_xor, tells_list, tells_set, tells_number, tells_not, steps_posted}
 
 pub before_at : (n : ℕ) (os : List Operand) (k : ℕ) → AllBefore n (terms_of os) → Before n (term_at os k)
 before_at n [] k h = tt
@@ -234,33 +234,33 @@ module _ (F : List ℤ → Type 0) where
   tells_tested : (n : ℕ) (c : Out) → Steps F n c → Tells F n (tested n c)
   tells_tested n c s = tells_then F F n c.items (truth_of_number (n + made c.items) c.term) s.rises (λ b f m. f) (tells_number F (n + made c.items) c.term s.before)
 
-  steps_clause : (n : ℕ) (ps ns : List Term) → Steps F n (posting_clause ps ns)
-  steps_clause n ps ns = steps_posted F n BoolClause (list_of ps ∷ list_of ns ∷ []) refl
+  steps_clause : (n : ℕ) (ps ns : List Term) → AllBefore n ps → AllBefore n ns → Steps F n (posting_clause ps ns)
+  steps_clause n ps ns h g = steps_posted F n BoolClause (list_of ps ∷ list_of ns ∷ []) refl (before_list n ps h, (before_list n ns g, tt))
 
-  steps_posting : (n : ℕ) (i : Builtin) (x y : Term) → is_not i ≡ false → Steps F n (posting i x y)
-  steps_posting n i x y other = steps_posted F n i (arg_of x ∷ arg_of y ∷ []) other
+  steps_posting : (n : ℕ) (i : Builtin) (x y : Term) → is_not i ≡ false → Before n x → Before n y → Steps F n (posting i x y)
+  steps_posting n i x y other h g = steps_posted F n i (arg_of x ∷ arg_of y ∷ []) other (before_arg n x h, (before_arg n y g, tt))
 
   steps_asserted : (n : ℕ) (c : Out) → Steps F n c → Steps F n (asserted n c)
-  steps_asserted n c s = steps_after F n c (λ k t. posting_clause (t ∷ []) []) s (steps_clause (n + made c.items) (c.term ∷ []) [])
+  steps_asserted n c s = steps_after F n c (λ k t. posting_clause (t ∷ []) []) s (steps_clause (n + made c.items) (c.term ∷ []) [] (s.before, tt) tt)
 
-  rises_equalities : (n : ℕ) (x : Term) (ys : List Term) → Rises F n (stated_equalities x ys)
-  rises_equalities n x [] = rises_nil F n
-  rises_equalities n x (y ∷ ys) = rises_posted F n IntEq (arg_of x ∷ arg_of y ∷ []) (stated_equalities y ys) refl (rises_equalities n y ys)
+  rises_equalities : (n : ℕ) (x : Term) (ys : List Term) → Before n x → AllBefore n ys → Rises F n (stated_equalities x ys)
+  rises_equalities n x [] h g = rises_nil F n
+  rises_equalities n x (y ∷ ys) h g = rises_posted F n IntEq (arg_of x ∷ arg_of y ∷ []) (stated_equalities y ys) refl (before_arg n x h, (before_arg n y g.0, tt)) (rises_equalities n y ys g.0 g.1)
 
-  steps_stated_equal : (n : ℕ) (ts : List Term) → Steps F n (stated_equal ts)
-  steps_stated_equal n [] = record { rises = rises_nil F n; before = tt }
-  steps_stated_equal n (x ∷ ys) = record { rises = rises_equalities n x ys; before = tt }
+  steps_stated_equal : (n : ℕ) (ts : List Term) → AllBefore n ts → Steps F n (stated_equal ts)
+  steps_stated_equal n [] h = record { rises = rises_nil F n; before = tt }
+  steps_stated_equal n (x ∷ ys) h = record { rises = rises_equalities n x ys h.0 h.1; before = tt }
 
-  steps_stated_written : (n : ℕ) (x : Term) (zs : List ℤ) → Steps F n (stated_written x zs)
-  steps_stated_written n x [] = steps_clause n (Truth false ∷ []) []
-  steps_stated_written n x (z ∷ zs) = steps_posted F n SetIn (arg_of x ∷ arg.Set (z ∷ zs) ∷ []) refl
+  steps_stated_written : (n : ℕ) (x : Term) (zs : List ℤ) → Before n x → Steps F n (stated_written x zs)
+  steps_stated_written n x [] h = steps_clause n (Truth false ∷ []) [] (tt, tt) tt
+  steps_stated_written n x (z ∷ zs) h = steps_posted F n SetIn (arg_of x ∷ arg.Set (z ∷ zs) ∷ []) refl (before_arg n x h, (before-Set n (z ∷ zs), tt))
 
   steps_stated_among : (written : Bool) (n : ℕ) (x : Term) (ms : List Term) → Before n x → AllBefore n ms → Steps F n (stated_member_among written n x ms)
-  steps_stated_among true n x ms h g = steps_stated_written n x (map integer_term ms)
+  steps_stated_among true n x ms h g = steps_stated_written n x (map integer_term ms) h
   steps_stated_among false n x ms h g = steps_asserted n (some_equal n x ms) (tells_some_equal F n x ms h g).steps
 
   steps_stated_member : (written : Bool) (n : ℕ) (ts : List Term) → AllBefore n ts → Steps F n (stated_member written n ts)
-  steps_stated_member written n [] h = steps_clause n (Truth false ∷ []) []
+  steps_stated_member written n [] h = steps_clause n (Truth false ∷ []) [] (tt, tt) tt
   steps_stated_member written n (x ∷ ms) h = steps_stated_among written n x ms h.0 h.1
 
   steps_either : (t : Bool) (n : ℕ) (c d : Out) → Steps F n c → Steps F n d → Steps F n (if t then c else d)
@@ -299,17 +299,17 @@ module _ (op : Op) (w : Bounds) (written : Bool) (n : ℕ) (os : List Operand) (
   steps_as_stated = steps_asserted K n (as_truth op w written n os) tells_as_truth.steps
 
 steps_stated : (op : Op) (w : Bounds) (written : Bool) (n : ℕ) (os : List Operand) → AllBefore n (terms_of os) → Steps (Known op (terms_of os)) n (stated_node op w written n os)
-steps_stated Lt w written n os h = steps_posting (Known Lt (terms_of os)) n IntLt (term_at os 0) (term_at os 1) refl
-steps_stated Le w written n os h = steps_posting (Known Le (terms_of os)) n IntLe (term_at os 0) (term_at os 1) refl
-steps_stated Gt w written n os h = steps_posting (Known Gt (terms_of os)) n IntLt (term_at os 1) (term_at os 0) refl
-steps_stated Ge w written n os h = steps_posting (Known Ge (terms_of os)) n IntLe (term_at os 1) (term_at os 0) refl
-steps_stated Ne w written n os h = steps_posting (Known Ne (terms_of os)) n IntNe (term_at os 0) (term_at os 1) refl
-steps_stated Eq w written n os h = steps_stated_equal (Known Eq (terms_of os)) n (terms_of os)
+steps_stated Lt w written n os h = steps_posting (Known Lt (terms_of os)) n IntLt (term_at os 0) (term_at os 1) refl (before_at n os 0 h) (before_at n os 1 h)
+steps_stated Le w written n os h = steps_posting (Known Le (terms_of os)) n IntLe (term_at os 0) (term_at os 1) refl (before_at n os 0 h) (before_at n os 1 h)
+steps_stated Gt w written n os h = steps_posting (Known Gt (terms_of os)) n IntLt (term_at os 1) (term_at os 0) refl (before_at n os 1 h) (before_at n os 0 h)
+steps_stated Ge w written n os h = steps_posting (Known Ge (terms_of os)) n IntLe (term_at os 1) (term_at os 0) refl (before_at n os 1 h) (before_at n os 0 h)
+steps_stated Ne w written n os h = steps_posting (Known Ne (terms_of os)) n IntNe (term_at os 0) (term_at os 1) refl (before_at n os 0 h) (before_at n os 1 h)
+steps_stated Eq w written n os h = steps_stated_equal (Known Eq (terms_of os)) n (terms_of os) h
 steps_stated In w written n os h = steps_stated_member (Known In (terms_of os)) written n (terms_of os) h
-steps_stated Not w written n os h = steps_clause (Known Not (terms_of os)) n [] (term_at os 0 ∷ [])
+steps_stated Not w written n os h = steps_clause (Known Not (terms_of os)) n [] (term_at os 0 ∷ []) tt (before_at n os 0 h, tt)
 steps_stated And w written n os h = record { rises = rises_nil (Known And (terms_of os)) n; before = tt }
-steps_stated Or w written n os h = steps_clause (Known Or (terms_of os)) n (terms_of os) []
-steps_stated Imp w written n os h = steps_clause (Known Imp (terms_of os)) n (term_at os 1 ∷ []) (term_at os 0 ∷ [])
+steps_stated Or w written n os h = steps_clause (Known Or (terms_of os)) n (terms_of os) [] h tt
+steps_stated Imp w written n os h = steps_clause (Known Imp (terms_of os)) n (term_at os 1 ∷ []) (term_at os 0 ∷ []) (before_at n os 1 h, tt) (before_at n os 0 h, tt)
 steps_stated NotIn w written n os h = steps_as_stated NotIn w written n os h
 steps_stated Xor w written n os h = steps_as_stated Xor w written n os h
 steps_stated Iff w written n os h = steps_as_stated Iff w written n os h

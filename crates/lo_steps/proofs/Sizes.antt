@@ -20,7 +20,7 @@ use Rattle.lo_terms.specs.declared.term.Term.{Term}
 use Rattle.lo_terms.specs.declared.term.Term.TheVariants.{Int, Truth, Var}
 use Rattle.lo_terms.specs.Emitted.{Out, arg_of, list_of, constants_of, kept, after, integer_of_one, integer_of_two, integer_of_list, integer_of_sum, integer_of_place, truth_of_one, truth_of_two, truth_of_list, truth_of_set, truth_of_number}
 use Rattle.lo_terms.specs.Rules.{terms_of, operand_at, term_at, minus_one, sum_coefficients, difference, distance, product, product_of, powers, steps_of, steps_to, choice, equalities, all_equal, equal, comparisons, integer_term, written_member, some_equal, member_among, member, no_member, parity, parity_of, number_node, truth_node, gives_truth, counted, tested, as_number, as_truth, posting, posting_clause, stated_equalities, stated_equal, asserted, stated_written, stated_member_among, stated_member, stated_node, node, literal_truth, literal, variable}
-use Rattle.xs_expr.specs.Bounds.{truths}
+use Rattle.xs_model.specs.Bounds.{truths}
 use Rattle.xs_model.specs.declared.expr.Op.{Op}
 use Rattle.xs_model.specs.declared.expr.Op.TheVariants.{Neg, Abs, Sqr, Add, Mul, Sub, Dist, Div, Mod, Pow, Min, Max, Lt, Le, Gt, Ge, Ne, Eq, Set, In, NotIn, Not, And, Or, Xor, Iff, Imp, If}
 

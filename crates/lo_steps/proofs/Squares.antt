@@ -7,13 +7,14 @@ use Rattle.xs_model.specs.declared.expr.Op.{Op}
 use Rattle.xs_model.specs.declared.expr.Expr.{Expr, Int as int_expr, Var as var_expr, Node as node_expr, roll-Expr, map-Expr, ind-Expr}
 use Rattle.xs_model.specs.declared.expr.Expr.TheVariants.{rolls-Int, rolls-Var, rolls-Node}
 use Rattle.xs_model.specs.declared.expr.Expr.TheOpen.{Expr-F}
-use Rattle.xs_expr.specs.Shape.{is_set_operator}
+use Rattle.xs_model.specs.Shape.{is_set_operator}
 use Rattle.lo_base.specs.Item.{made}
 use Rattle.lo_base.specs.Lowered.{calls_of}
 use Rattle.lo_terms.specs.declared.term.Mode.{Mode}
 use Rattle.lo_terms.specs.declared.term.Mode.TheVariants.{Stated}
 use Rattle.lo_terms.specs.Rules.{node, literal, variable, operand_mode}
-use Rattle.lo_terms.specs.Lowering.{Low, low_expr, low_operands, single, own_low_of, finished, span_of, has_written, low_intension, nodes, nodes_of}
+use Rattle.lo_terms.specs.Lowering.{Low, low_expr, low_operands, single, own_low_of, finished, span_of, has_written, low_intension}
+use Rattle.xs_model.specs.Formed.{nodes, nodes_of}
 use Rattle.lo_terms.proofs.LowerLemmas.{low-Int, low-Var, low-Node, nodes-node, nodes-int, nodes-var}
 use Rattle.lo_steps.specs.Laws.{IntensionSize, IntensionLeaves, square_of}
 use Rattle.lo_steps.proofs.Sizes.{weight, weight-is, weight-append, weight-node, weight-literal, weight-variable}

@@ -10,12 +10,15 @@ use Rattle.fz_model.specs.declared.model.Arg.TheVariants as arg
 use Rattle.fz_model.specs.declared.model.Call.{Call}
 use Rattle.fz_model.specs.Calls.{call_of}
 use Rattle.fz_model.specs.Meaning.{at, number}
-use Rattle.fz_model.specs.Fixing.{IsBit, IsItemBefore, AreItemsBefore, IsBefore, Fixes, NotOfBits, Last, place_of}
+use Rattle.fz_model.specs.Fixing.{IsBit, IsItemBefore, AreItemsBefore, IsBefore, AreBefore, Fixes, NotOfBits, Last, place_of}
 use Rattle.fz_model.proofs.Calls.{number-Bool, number-Var}
 use Rattle.fz_model.proofs.Fixing.{before-Int, before-Bool, before-Var, before-Set, before-List, item_before-Int, item_before-Bool, item_before-Var, last_of_two_fixes, last_of_three_fixes, bool_not_fixes, bool_xor_fixes, bool2int_fixes_first, int_lin_eq_fixes, array_var_int_element_fixes, set_in_reif_fixes}
+use Rattle.lo_base.specs.Before.{AreCallsBefore}
 use Rattle.lo_base.specs.Item.{Item, Ranged, Boolean, Posted, made}
+use Rattle.lo_base.specs.Lowered.{calls_of}
 use Rattle.lo_base.specs.Solved.{Meets}
 use Rattle.lo_base.specs.Stepwise.{Settles, AreBits, Stepwise}
+use Rattle.lo_base.proofs.Before.{joined_before, arguments_longer, before_longer, fixes_before}
 use Rattle.lo_base.proofs.Solving.{made-append, meets_split, truth_bit}
 use Rattle.lo_base.proofs.Steps.{bits_join}
 use Rattle.lo_terms.specs.declared.term.Term.{Term}
@@ -48,7 +51,7 @@ pub all_before_join : (n : ℕ) (ts us : List Term) → AllBefore n ts → AllBe
 all_before_join n [] us h k = k
 all_before_join n (t ∷ ts) us h k = (h.0, all_before_join n ts us h.1 k)
 
-before_arg : (n : ℕ) (t : Term) → Before n t → IsBefore n (arg_of t)
+pub before_arg : (n : ℕ) (t : Term) → Before n t → IsBefore n (arg_of t)
 before_arg n (Int z) h = before-Int n z
 before_arg n (Truth t) h = before-Bool n t
 before_arg n (Var v) h = before-Var n v h
@@ -62,7 +65,7 @@ items_before : (n : ℕ) (ts : List Term) → AllBefore n ts → AreItemsBefore 
 items_before n [] h = tt
 items_before n (t ∷ ts) h = (item_before n t h.0, items_before n ts h.1)
 
-before_list : (n : ℕ) (ts : List Term) → AllBefore n ts → IsBefore n (list_of ts)
+pub before_list : (n : ℕ) (ts : List Term) → AllBefore n ts → IsBefore n (list_of ts)
 before_list n ts h = before-List n (map arg_of ts) (items_before n ts h)
 
 constants_before : (n : ℕ) (zs : List ℤ) → AreItemsBefore n (map arg.Int zs)
@@ -91,11 +94,12 @@ is_not i = false
 pub no_bits : (i : Builtin) (args : List Arg) → is_not i ≡ false → (b : List ℤ) → NotOfBits b (call_of i args)
 no_bits i args other b e = absurd (true≢false (sym (ap is_not e) ∙ other))
 
--- Each variable that the items make, the first of which is n, is settled by one of them, and truth values are 0 or 1
--- where the items are met and F is known.
+-- Each variable that the items make, the first of which is n, is settled by one of them, truth values are 0 or 1 where
+-- the items are met and F is known, and the calls speak of variables before n and of those that the items make alone.
 pub record Rises (F : List ℤ → Type 0) (n : ℕ) (xs : List Item) : Type 0 where
   pub each : (k : ℕ) → n ≤ k → k < n + made xs → Settles k n xs
   pub bits : (b : List ℤ) → F b → Meets n xs b → AreBits xs b
+  pub calls : AreCallsBefore (n + made xs) (calls_of xs)
 
 below_or_not : (k m : ℕ) → (k < m) ⊎ (m ≤ k)
 below_or_not k m = grind arith
@@ -116,7 +120,7 @@ settles_right k n (Boolean ∷ xs) ys s = settles_right k (n + 1) xs ys (settles
 settles_right k n (Posted call ∷ xs) ys s = inr (settles_right k n xs ys (settles_at k (n + (0 + made xs)) (n + made xs) ys (omega arith) s))
 
 pub rises_nil : (F : List ℤ → Type 0) (n : ℕ) → Rises F n []
-rises_nil F n = record { each = λ k le lt. absurd (omega arith); bits = λ b f h. tt }
+rises_nil F n = record { each = λ k le lt. absurd (omega arith); bits = λ b f h. tt; calls = tt }
 
 pub rises_join : (F G : List ℤ → Type 0) (n : ℕ) (xs ys : List Item) → Rises F n xs → ((b : List ℤ) → F b → Meets n xs b → G b) → Rises G (n + made xs) ys → Rises F n (xs ++ ys)
 rises_join F G n xs ys s known t = record {
@@ -126,13 +130,21 @@ rises_join F G n xs ys s known t = record {
         | inr l ↦ settles_right k n xs ys (t.each k l (omega (arith, made-append xs ys)))
       ];
   bits = λ b f h. let parts = meets_split n xs ys b h in bits_join xs ys b (s.bits b f parts.0) (t.bits b (known b f parts.0) parts.1);
+  calls =
+      let k = n + made (xs ++ ys) in
+      joined_before k xs ys (before_longer (n + made xs) k (omega (arith, made-append xs ys)) (calls_of xs) s.calls)
+      (before_longer (n + made xs + made ys) k (omega (arith, made-append xs ys)) (calls_of ys) t.calls);
 }
 
 pub rises_stepwise : (F : List ℤ → Type 0) (n : ℕ) (xs : List Item) → ((b : List ℤ) → F b) → Rises F n xs → Stepwise n xs
 rises_stepwise F n xs known s = record { each = s.each; bits = λ b h. s.bits b (known b) h }
 
-pub rises_posted : (F : List ℤ → Type 0) (n : ℕ) (i : Builtin) (args : List Arg) (xs : List Item) → is_not i ≡ false → Rises F n xs → Rises F n (Posted (call_of i args) ∷ xs)
-rises_posted F n i args xs other s = record { each = λ k le lt. inr (s.each k le (omega arith)); bits = λ b f h. (no_bits i args other b, s.bits b f h.1) }
+pub rises_posted : (F : List ℤ → Type 0) (n : ℕ) (i : Builtin) (args : List Arg) (xs : List Item) → is_not i ≡ false → AreBefore n args → Rises F n xs → Rises F n (Posted (call_of i args) ∷ xs)
+rises_posted F n i args xs other before s = record {
+  each = λ k le lt. inr (s.each k le (omega arith));
+  bits = λ b f h. (no_bits i args other b, s.bits b f h.1);
+  calls = let k = n + (0 + made xs) in (arguments_longer n k (omega arith) args before, before_longer (n + made xs) k (omega arith) (calls_of xs) s.calls);
+}
 
 -- a new variable, and the call that fixes it
 
@@ -140,12 +152,14 @@ rises_integer : (F : List ℤ → Type 0) (n : ℕ) (lo hi : ℤ) (call : Call) 
 rises_integer F n lo hi call none f = record {
   each = λ k le lt. let same : k ≡ n = omega arith in inr (inl (rw same f));
   bits = λ b known h. (none b, tt);
+  calls = (fixes_before n call f, tt);
 }
 
 rises_boolean : (F : List ℤ → Type 0) (n : ℕ) (call : Call) → ((b : List ℤ) → F b → IsBit (at b n) → NotOfBits b call) → Fixes n call → Rises F n (Boolean ∷ Posted call ∷ [])
 rises_boolean F n call bits f = record {
   each = λ k le lt. let same : k ≡ n = omega arith in inl (rw same f);
   bits = λ b known h. (bits b known h.0, tt);
+  calls = (fixes_before n call f, tt);
 }
 
 -- what stands for an expression, whose term names only variables before or new ones
@@ -250,5 +264,5 @@ pub tells_not : (F : List ℤ → Type 0) (n : ℕ) (x : Term) → Before n x �
 tells_not F n x h known = tells_boolean F n (call_of BoolNot (arg_of x ∷ arg.Var n ∷ [])) (λ b f bit e. (known b f, (bit-Var b n bit, tt))) (bool_not_fixes n (arg_of x) (before_arg n x h))
 
 -- a fact that is stated, by a call that makes no variable
-pub steps_posted : (F : List ℤ → Type 0) (n : ℕ) (i : Builtin) (args : List Arg) → is_not i ≡ false → Steps F n (record { items = Posted (call_of i args) ∷ []; term = Truth true })
-steps_posted F n i args other = record { rises = rises_posted F n i args [] other (rises_nil F n); before = tt }
+pub steps_posted : (F : List ℤ → Type 0) (n : ℕ) (i : Builtin) (args : List Arg) → is_not i ≡ false → AreBefore n args → Steps F n (record { items = Posted (call_of i args) ∷ []; term = Truth true })
+steps_posted F n i args other before = record { rises = rises_posted F n i args [] other before (rises_nil F n); before = tt }

@@ -7,7 +7,8 @@ use Rattle.lo_base.specs.Item.{Item, made}
 use Rattle.lo_terms.specs.declared.term.Mode.{Mode}
 use Rattle.lo_terms.specs.declared.term.Operand.{Operand}
 use Rattle.lo_terms.specs.Rules.{literal, variable, operand_mode}
-use Rattle.lo_terms.specs.Lowering.{Low, Lowering, lowering, lowering_step, low_expr, low_operands, single, own_low, finished, node_low, selves, lows, span_of, has_written, nodes, nodes_step, nodes_of}
+use Rattle.lo_terms.specs.Lowering.{Low, Lowering, lowering, lowering_step, low_expr, low_operands, single, own_low, finished, node_low, selves, lows, span_of, has_written}
+use Rattle.xs_model.specs.Formed.{nodes, nodes_step, nodes_of}
 use Rattle.xf_num.specs.Span.{Bounds}
 use Rattle.xs_model.specs.declared.expr.Op.{Op}
 use Rattle.xs_model.specs.declared.expr.Expr.{Expr, Int, Var, Node, roll-Expr, map-Expr, ind-Expr, fold-roll-Expr}

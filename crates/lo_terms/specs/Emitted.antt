@@ -12,7 +12,7 @@ use Rattle.lo_terms.specs.declared.term.Term.{Term}
 use Rattle.lo_terms.specs.declared.term.Term.TheVariants.{Int, Truth, Var}
 use Rattle.xf_num.specs.Span.{Bounds}
 use Rattle.xf_text.specs.declared.fault.Kind.{Kind}
-use Rattle.xs_expr.specs.Bounds.{exactly, limited}
+use Rattle.xs_model.specs.Bounds.{exactly, limited}
 
 -- the items that are appended, and what stands for the expression
 pub record Out : Type 0 where

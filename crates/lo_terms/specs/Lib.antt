@@ -1,3 +1,4 @@
 pub mod Emitted
 pub mod Rules
 pub mod Lowering
+pub mod Constraint

@@ -13,8 +13,8 @@ use Rattle.lo_terms.specs.declared.term.Mode.{Mode}
 use Rattle.lo_terms.specs.declared.term.Mode.TheVariants.{Stated}
 use Rattle.lo_terms.specs.declared.term.Operand.{Operand}
 use Rattle.xf_num.specs.Span.{Bounds}
-use Rattle.xs_expr.specs.Bounds.{bounds}
-use Rattle.xs_expr.specs.Shape.{is_set_operator}
+use Rattle.xs_model.specs.Bounds.{bounds}
+use Rattle.xs_model.specs.Shape.{is_set_operator}
 use Rattle.xs_model.specs.declared.expr.Op.{Op}
 use Rattle.xs_model.specs.declared.expr.Expr.{Expr, Int as int_expr, Var as var_expr, Node as node_expr, out-Expr, fold-Expr}
 use Rattle.xs_model.specs.declared.expr.Expr.TheOpen.{Expr-F}
@@ -113,19 +113,3 @@ low_operands ss op mode k n es = in_turn op mode k n (map (low_expr ss) es)
 -- what states an expression
 abbrev pub low_intension : List Bounds → ℕ → Expr → List Item
 low_intension ss n e = (low_expr ss e Stated n).items
-
-abbrev pub total : List ℕ → ℕ
-total [] = 0
-total (m ∷ ms) = m + total ms
-
--- how many nodes an expression has
-abbrev pub nodes_step : Expr-F ℕ → ℕ
-nodes_step (Expr-F.Int z) = 1
-nodes_step (Expr-F.Var v) = 1
-nodes_step (Expr-F.Node op ms) = 1 + total ms
-
-abbrev pub nodes : Expr → ℕ
-nodes = fold-Expr ℕ nodes_step
-
-abbrev pub nodes_of : List Expr → ℕ
-nodes_of es = total (map nodes es)

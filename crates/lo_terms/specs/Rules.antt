@@ -14,7 +14,7 @@ use Rattle.lo_terms.specs.declared.term.Operand.{Operand}
 use Rattle.lo_terms.specs.declared.term.Term.{Term}
 use Rattle.lo_terms.specs.declared.term.Term.TheVariants.{Int, Truth, Var}
 use Rattle.xf_num.specs.Span.{Bounds, sub_ends, mul_ends, pow_ends}
-use Rattle.xs_expr.specs.Bounds.{exactly, truths}
+use Rattle.xs_model.specs.Bounds.{exactly, truths}
 use Rattle.xs_model.specs.declared.expr.Op.{Op}
 use Rattle.xs_model.specs.declared.expr.Op.TheVariants.{Neg, Abs, Sqr, Add, Mul, Sub, Dist, Div, Mod, Pow, Min, Max, Lt, Le, Gt, Ge, Ne, Eq, Set, In, NotIn, Not, And, Or, Xor, Iff, Imp, If}
 

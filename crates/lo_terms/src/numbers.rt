@@ -5,7 +5,7 @@ ghost use Rattle.xf_text.specs.Outside.{Rose};
 ghost use Rattle.lo_base.specs.Item.{made};
 ghost use Rattle.xf_num.specs.Span.{Bounds, EndsFit};
 ghost use Rattle.lo_terms.specs.Emitted.{kept, after, integer_of_one, integer_of_list, integer_of_sum};
-ghost use Rattle.xs_expr.specs.Bounds.{truths};
+ghost use Rattle.xs_model.specs.Bounds.{truths};
 ghost use Rattle.fz_model.specs.declared.builtin.Builtin.TheVariants.{Bool2Int};
 ghost use Rattle.lo_terms.specs.Rules.{terms_of, sum_coefficients, difference, distance, product, product_of, powers, steps_of, steps_to, power_of, choice, choice_of, other_number, number_node};
 

@@ -1,18 +1,20 @@
-ghost use Rattle.std.specs.Prelude.{◌≡◌, [], All, IfSome};
-ghost use Rattle.lo_terms.specs.Lowering.{nodes, nodes_of};
-ghost use Rattle.xs_expr.specs.Bounds.{HasVariables};
+ghost use Rattle.std.specs.Prelude.{◌≡◌, [], ◌∷◌, All, IfOk, IfSome, length};
+ghost use Rattle.xs_model.specs.Accepted.{IsAccepted};
+ghost use Rattle.xs_model.specs.Formed.{nodes, nodes_of};
+ghost use Rattle.xs_model.specs.Names.{words};
+ghost use Rattle.xs_model.specs.Bounds.{HasVariables};
 
-use crate::lower_intension;
 use crate::node::{literal, node, variable};
 use crate::term::{Mode, Operand, Term};
+use crate::{lower, lower_intension};
 use fz_model::{Arg, FzVar, Goal, Model};
 use itoa::Buffer;
-use lo_base::{Emit, Held};
+use lo_base::{Emit, Held, auxiliary};
 use std::alloc::Global;
 use std::test::Fail;
-use xf_num::{NoMemory, Row, Span, Text};
+use xf_num::{Domain, NoMemory, Row, Span, Text};
 use xs_expr::{bounds, is_shaped};
-use xs_model::{Expr, Op};
+use xs_model::{Constraint, Decl, Expr, Instance, Op};
 
 fn write_integer(value: i128, text: &mut Text) -> Result<(), NoMemory> {
     let mut buffer = Buffer::new();
@@ -481,7 +483,9 @@ fn stated(alloc: Global, e: &Expr) -> Result<Text, Fail> {
     Ok(text)
 }
 
-fn x() -> Expr {
+fn x() -> Expr
+    ensures { result ≡ Expr.Var 0 }
+{
     Expr::Var(0)
 }
 
@@ -720,6 +724,42 @@ fn products(rt: HostRuntime) -> Result<(), Fail> {
     assert_eq!(rt;
         stated(a, &e)?.as_slice(),
         b"bool; bool; bool; -10..15; -4..6; -12..18; bool; bool; bool; bool; bool; int_times v0 v1 v3; int_times 2 v0 v4; int_times v4 v0 v5; int_eq_reif v3 v5 v6; int_eq_reif v0 4 v7; int_eq_reif v0 v1 v8; array_bool_or [ v7 v8 ] v9; bool_not v9 v10; bool_clause [ v6 v10 ] [ ]; ".as_slice()
+    );
+    Ok(())
+}
+
+// The variable x of 0..1, which holds.
+fn one_bit(alloc: Global) -> Result<Instance, NoMemory>
+    ensures accepted { IfOk result IsAccepted }
+    ensures variables { IfOk result (λ i. length (words i.decls) ≡ 1) }
+    ensures constraints { IfOk result (λ i. i.constraints ≡ Constraint.Intension (Expr.Var 0) ∷ []) }
+{
+    let mut name = Row::new(alloc);
+    name.extend(b"x")?;
+    let domain = Domain::of(Span::new(0, 1).unwrap(), alloc)?;
+    let mut decls = Row::new(alloc);
+    decls.push(Decl::One { name, domain })?;
+    let mut constraints = Row::new(alloc);
+    constraints.push(Constraint::Intension { expr: x() })?;
+    Ok(Instance { decls, constraints })
+}
+
+#[test]
+fn constraints(rt: HostRuntime) -> Result<(), Fail> {
+    let inst = one_bit(rt.alloc())?;
+    let mut named = Row::new(rt.alloc());
+    named.push(auxiliary(rt.alloc(), 0, false, Span::new(0, 1).unwrap())?)?;
+    let mut held = Held::new(rt.alloc(), named);
+    lower(
+        rt.alloc(),
+        &inst.constraints.as_slice()[0],
+        &inst,
+        &mut held,
+    )?;
+    let model = held.finish(Goal::Satisfy);
+    assert_eq!(rt;
+        written(rt.alloc(), &model)?.as_slice(),
+        b"0..1; bool; bool2int v1 v0; bool_clause [ v1 ] [ ]; ".as_slice()
     );
     Ok(())
 }

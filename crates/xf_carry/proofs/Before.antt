@@ -1,29 +1,20 @@
--- The calls of a lowered instance speak of the model's variables, so that a name past those that are given is that of an
--- auxiliary.
-use Rattle.std.proofs.Common.{◌≡◌, ◌⊎◌, ⊎_elim, ℕ, zero, suc, ◌+◌, ◌-◌, ◌<◌, ◌≤◌, List, [], ◌∷◌, ◌++◌, length, map, get_or, refl, ap, sym, subst, ◌∙◌, arith, codes}
-use Rattle.std.specs.List.{AllByRecursion, flat_map}
+-- Calls that speak of the variables of a model have the same text where only the first names are given: a name past
+-- these is that of an auxiliary.
+use Rattle.std.proofs.Common.{◌≡◌, ◌⊎◌, ⊎_elim, ℕ, zero, suc, ◌+◌, ◌-◌, ◌<◌, ◌≤◌, List, [], ◌∷◌, ◌++◌, length, map, get_or, refl, ap, sym, ◌∙◌, arith, codes}
+use Rattle.std.specs.List.{flat_map}
 use Rattle.std.specs.Fmt.{decimal}
 use Rattle.std.proofs.lemmas.Bool.{lt-ltb, le-ltb}
 use Rattle.std.proofs.lemmas.List.{map-append, get_or_append_left, get_or-append_right, length-append}
-use Rattle.xs_model.specs.declared.instance.Constraint.{Constraint}
-use Rattle.xs_model.specs.declared.instance.Constraint.TheVariants.{AllDifferent}
-use Rattle.xs_model.specs.Sound.{IsSoundConstraint}
 use Rattle.fz_model.specs.declared.model.Arg.{Arg, out-Arg, roll-out-Arg, fold-roll-Arg, map-Arg}
 use Rattle.fz_model.specs.declared.model.Arg.TheOpen.{Arg-F, Int, Bool, Var, Range, Set, List as Listed}
 use Rattle.fz_model.specs.declared.model.Call.{Call}
 use Rattle.fz_model.specs.declared.model.FzVar.{FzVar}
 use Rattle.fz_model.specs.Fixing.{IsItemBefore, AreItemsBefore, IsBeforeOf, IsBefore, AreBefore}
-use Rattle.fz_model.proofs.Fixing.{before-Var}
 use Rattle.fz_file.specs.Layout.{arg_text, arg_step, listed, name_at, names_of, call_head, call_line}
 use Rattle.lo_base.specs.Item.{Item, Ranged, Boolean, Posted, made}
-use Rattle.lo_base.specs.Lowered.{vars_of, calls_of}
-use Rattle.lo_base.specs.Held.{calls_of-append, length-vars_of}
-use Rattle.lo_base.proofs.Solving.{made-append}
-use Rattle.lo_forms.specs.Different.{differ_from, low_different}
-use Rattle.lo_forms.specs.Form.{low_form, low_all}
-
-abbrev pub AreCallsBefore : ℕ → List Call → Type 0
-AreCallsBefore k = AllByRecursion (λ (call : Call). AreBefore k call.args)
+use Rattle.lo_base.specs.Before.{AreCallsBefore}
+use Rattle.lo_base.specs.Lowered.{vars_of}
+use Rattle.lo_base.specs.Held.{length-vars_of}
 
 -- two lists give the variables before k the same names
 abbrev pub NameAlike : ℕ → List (List ℕ) → List (List ℕ) → Type 0
@@ -108,30 +99,3 @@ names_alike vs xs j lt =
     ∙ ap (λ m. codes "a_" ++ decimal m) (omega (arith, length-names vs))
     ∙ sym (named_past front j (omega (arith, length-names vs))))
     (either_side j n)
-
-before_append : (k : ℕ) (cs ds : List Call) → AreCallsBefore k cs → AreCallsBefore k ds → AreCallsBefore k (cs ++ ds)
-before_append k [] ds h g = g
-before_append k (c ∷ cs) ds h g = (h.0, before_append k cs ds h.1 g)
-
-joined_before : (k : ℕ) (xs ys : List Item) → AreCallsBefore k (calls_of xs) → AreCallsBefore k (calls_of ys) → AreCallsBefore k (calls_of (xs ++ ys))
-joined_before k xs ys h g = subst (AreCallsBefore k) (sym (calls_of-append xs ys)) (before_append k (calls_of xs) (calls_of ys) h g)
-
-differ_before : (n k x : ℕ) (ys : List ℕ) → n ≤ k → x < n → AllByRecursion (λ v. v < n) ys → AreCallsBefore k (calls_of (differ_from x ys))
-differ_before n k x [] le lt h = tt
-differ_before n k x (y ∷ ys) le lt h = ((before-Var k x (omega arith), (before-Var k y (omega (arith, h.0)), tt)), differ_before n k x ys le lt h.1)
-
-different_before : (n k : ℕ) (xs : List ℕ) → n ≤ k → AllByRecursion (λ v. v < n) xs → AreCallsBefore k (calls_of (low_different xs))
-different_before n k [] le h = tt
-different_before n k (x ∷ xs) le h = joined_before k (differ_from x xs) (low_different xs) (differ_before n k x xs le h.0 h.1) (different_before n k xs le h.1)
-
--- the calls of a constraint over the variables before n speak of these and of the variables that are made for it, all before k
-form_before : (n m k : ℕ) (c : Constraint) → IsSoundConstraint n c → n ≤ m → m + made (low_form m c) ≤ k → AreCallsBefore k (calls_of (low_form m c))
-form_before n m k (AllDifferent list) h le room = different_before n k list (omega arith) h
-
-pub all_before : (n m k : ℕ) (cs : List Constraint) → AllByRecursion (IsSoundConstraint n) cs → n ≤ m → m + made (low_all m cs) ≤ k → AreCallsBefore k (calls_of (low_all m cs))
-all_before n m k [] h le room = tt
-all_before n m k (c ∷ cs) h le room =
-    let xs : List Item = low_form m c in
-    let ys : List Item = low_all (m + made xs) cs in
-    let split = made-append xs ys in
-    joined_before k xs ys (form_before n m k c h.0 le (omega (arith, split))) (all_before n (m + made xs) k cs h.1 (omega arith) (omega (arith, split)))

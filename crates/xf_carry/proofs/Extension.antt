@@ -1,11 +1,13 @@
 -- The model of an instance extends it, whatever items it is lowered to that mean its constraints.
-use Rattle.std.proofs.Common.{◌≡◌, ℕ, suc, ◌+◌, ℤ, pos, List, [], ◌∷◌, ◌++◌, length, map, take, refl, ap, sym, subst, ◌∙◌, arith, append-nil}
-use Rattle.std.proofs.lemmas.List.{map-append, ext_get_or, get_or_append_left}
+use Rattle.std.proofs.Common.{◌≡◌, ℕ, suc, ◌+◌, ◌≤◌, ℤ, pos, List, [], ◌∷◌, ◌++◌, length, map, take, refl, ap, sym, subst, ◌∙◌, arith, append-nil}
+use Rattle.std.proofs.lemmas.List.{map-append, ext_get_or, get_or_append_left, take_all}
 use Rattle.std.proofs.Math.Seq.{take-append_seam}
 use Rattle.xf_problem.specs.Problem.{Extends, ExtendsOnce}
 use Rattle.xs_model.specs.declared.instance.Instance.{Instance}
 use Rattle.xs_model.specs.Names.{words, domains}
-use Rattle.xs_model.specs.Sound.{IsSound}
+use Rattle.xs_model.specs.Accepted.{IsSound}
+use Rattle.xs_model.specs.Spans.{AreWithin, BeginsWithin, spans_of}
+use Rattle.xs_model.proofs.SpanLemmas.{members_within, spans_words}
 use Rattle.xs_model.specs.Instance as xcsp
 use Rattle.fz_model.specs.declared.model.FzVar.{FzVar}
 use Rattle.fz_model.specs.Fixing.{Agree}
@@ -19,8 +21,8 @@ use Rattle.lo_base.specs.Held.{length-vars_of}
 use Rattle.lo_base.specs.Solved as items
 use Rattle.lo_base.specs.Stepwise.{Stepwise}
 use Rattle.lo_base.proofs.Steps.{one_extension}
-use Rattle.lo_forms.specs.Laws.{AllHold}
-use Rattle.lo_forms.proofs.FormLemmas.{all_means, all_stepwise}
+use Rattle.lo_instance.specs.Laws.{AllHold}
+use Rattle.lo_instance.proofs.FormLemmas.{all_means, all_stepwise}
 use Rattle.xf_carry.specs.Lowered.{low_items, model_of, LowExtends, LowExtendsOnce}
 use Rattle.xf_carry.proofs.Members.{members_split, members_join, members_length, shown_members, members_shown, made_members, meets_calls, members_meet}
 
@@ -53,18 +55,32 @@ meets i xs a c s len h =
     let parts = members_split (shown_vars i.decls) (vars_of 0 xs) a c (len ∙ sym (shown_count i s)) h.members in
     (members_length (vars_of 0 xs) c parts.1 ∙ length-vars_of 0 xs, members_meet (count i) 0 xs a c len parts.1 h.calls)
 
-solves_first : (i : Instance) (xs : List Item) (a c : List ℤ) → IsSound i → items.Means (AllHold i.constraints) (count i) xs → length a ≡ count i → flat.Solves (model_of (shown_vars i.decls) xs) (a ++ c) → xcsp.Solves i a
+few_spans : (i : Instance) → IsSound i → length (spans_of i.decls) ≤ count i
+few_spans i s = omega (arith, spans_words i.decls s.decls)
+
+-- values of the domains lie within the bounds
+within : (i : Instance) (a : List ℤ) → IsSound i → length a ≡ count i → xcsp.AreMembers (domains i.decls) a → BeginsWithin (spans_of i.decls) a
+within i a s len h =
+    let all : take (length (spans_of i.decls)) a ≡ a = take_all (length (spans_of i.decls)) a (omega (arith, len, spans_words i.decls s.decls)) in
+    subst (AreWithin (spans_of i.decls)) (sym all) (members_within i.decls a s.decls h)
+
+-- the items mean that the constraints of the instance hold, among values within the bounds of its variables
+abbrev ItemsMean : Instance → List Item → Type 0
+ItemsMean i xs = items.MeansWithin (BeginsWithin (spans_of i.decls)) (AllHold i.constraints) (count i) xs
+
+solves_first : (i : Instance) (xs : List Item) (a c : List ℤ) → IsSound i → ItemsMean i xs → length a ≡ count i → flat.Solves (model_of (shown_vars i.decls) xs) (a ++ c) → xcsp.Solves i a
 solves_first i xs a c s means len h =
     let parts = members_split (shown_vars i.decls) (vars_of 0 xs) a c (len ∙ sym (shown_count i s)) h.members in
     let met = meets i xs a c s len h in
+    let members = members_shown (words i.decls) (domains i.decls) a (same_counts i.decls s.decls) parts.0 in
     record {
-      members = members_shown (words i.decls) (domains i.decls) a (same_counts i.decls s.decls) parts.0;
-      hold = means.sound a c len (omega (arith, met.0)) met.1;
+      members = members;
+      hold = means.sound a c len (omega (arith, met.0)) (within i a s len members) met.1;
     }
 
-solves_more : (i : Instance) (xs : List Item) (a : List ℤ) → IsSound i → items.Means (AllHold i.constraints) (count i) xs → length a ≡ count i → xcsp.Solves i a → (c : List ℤ) × flat.Solves (model_of (shown_vars i.decls) xs) (a ++ c)
+solves_more : (i : Instance) (xs : List Item) (a : List ℤ) → IsSound i → ItemsMean i xs → length a ≡ count i → xcsp.Solves i a → (c : List ℤ) × flat.Solves (model_of (shown_vars i.decls) xs) (a ++ c)
 solves_more i xs a s means len h =
-    let e = means.complete a len h.hold in
+    let e = means.complete a len (within i a s len h.members) h.hold in
     let met : items.Meets (count i) xs (a ++ e.more) =
     subst (λ (n : ℕ). items.Meets n xs (a ++ e.more)) len (subst (items.Meets (length a) xs) (append-nil (a ++ e.more)) (e.met [])) in (
       e.more,
@@ -74,7 +90,7 @@ solves_more i xs a s means len h =
       },
     )
 
-pub model_extends : (i : Instance) (xs : List Item) → IsSound i → items.Means (AllHold i.constraints) (count i) xs → Extends spelled (xcsp.problem_of i) (flat.problem_of (model_of (shown_vars i.decls) xs))
+pub model_extends : (i : Instance) (xs : List Item) → IsSound i → ItemsMean i xs → Extends spelled (xcsp.problem_of i) (flat.problem_of (model_of (shown_vars i.decls) xs))
 model_extends i xs s means = record {
   first = first_names i xs s;
   solutions = λ a len. (λ h. solves_more i xs a s means len h, λ h. solves_first i xs a h.0 s means len h.1);
@@ -100,7 +116,7 @@ model_extends_once i xs s steps = record {
 }
 
 pub low_extends : LowExtends
-low_extends i s = model_extends i (low_items i) s (all_means (count i) i.constraints s.constraints)
+low_extends i s = model_extends i (low_items i) s (all_means (spans_of i.decls) (count i) i.constraints s.constraints (few_spans i s))
 
 pub low_extends_once : LowExtendsOnce
-low_extends_once i s = model_extends_once i (low_items i) s (all_stepwise (count i) i.constraints s.constraints)
+low_extends_once i s = model_extends_once i (low_items i) s (all_stepwise (spans_of i.decls) (count i) i.constraints s.constraints (few_spans i s))

@@ -5,3 +5,4 @@ pub mod Before
 pub mod Room
 pub mod Steps
 pub mod Text
+pub mod Examples

@@ -4,16 +4,21 @@ use Rattle.std.specs.List.{flat_map}
 use Rattle.std.proofs.lemmas.Grind.{flat_map-append}
 use Rattle.xs_model.specs.declared.instance.Instance.{Instance}
 use Rattle.xs_model.specs.Names.{words}
-use Rattle.xs_model.specs.Sound.{IsSound}
+use Rattle.xs_model.specs.Accepted.{IsSound}
 use Rattle.fz_model.specs.declared.model.FzVar.{FzVar}
 use Rattle.fz_model.specs.declared.model.Goal.TheVariants.{Satisfy}
 use Rattle.fz_file.specs.Layout.{var_line, goal_line, names_of, layout}
 use Rattle.lo_names.specs.Shown.{shown_vars}
 use Rattle.lo_base.specs.Item.{Item, made}
+use Rattle.lo_base.specs.Before.{AreCallsBefore}
 use Rattle.lo_base.specs.Lowered.{vars_of, calls_of}
+use Rattle.lo_base.proofs.Before.{before_longer}
+use Rattle.lo_instance.proofs.FormLemmas.{all_before}
+use Rattle.xs_model.proofs.SpanLemmas.{spans_words}
+use Rattle.xs_model.specs.Spans.{spans_of}
 use Rattle.xf_carry.specs.Lines.{end_lines}
 use Rattle.xf_carry.specs.Lowered.{low, low_items}
-use Rattle.xf_carry.proofs.Before.{AreCallsBefore, names_alike, calls_alike, all_before}
+use Rattle.xf_carry.proofs.Before.{names_alike, calls_alike}
 use Rattle.xf_carry.proofs.Extension.{shown_count}
 
 -- the named variables, and then the auxiliaries
@@ -27,7 +32,9 @@ layout_text i named s is =
     let vs : List FzVar = shown_vars i.decls in
     let xs : List Item = low_items i in
     let k : ℕ = length vs + made xs in
-    let before : AreCallsBefore k (calls_of xs) = all_before (length (words i.decls)) (length (words i.decls)) k i.constraints s.constraints (omega arith) (omega (arith, shown_count i s)) in
+    let n : ℕ = length (words i.decls) in
+    let speak = all_before (spans_of i.decls) n i.constraints s.constraints (omega (arith, spans_words i.decls s.decls)) in
+    let before : AreCallsBefore k (calls_of xs) = before_longer (n + made xs) k (omega (arith, shown_count i s)) (calls_of xs) speak in
     let calls = calls_alike k (names_of (vs ++ vars_of 0 xs)) (names_of vs) (names_alike vs xs) (calls_of xs) before in
     ap (λ cs. flat_map var_line (low i).vars ++ (cs ++ goal_line (names_of vs) Satisfy)) calls
     ∙ ap (λ ns. flat_map var_line (low i).vars ++ end_lines ns xs) (sym is)

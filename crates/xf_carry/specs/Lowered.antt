@@ -4,7 +4,8 @@ use Rattle.xf_problem.specs.Problem.{Extends, ExtendsOnce}
 use Rattle.xs_model.specs.declared.instance.Instance.{Instance}
 use Rattle.xs_model.specs.Names.{words}
 use Rattle.xs_model.specs.Instance as xcsp
-use Rattle.xs_model.specs.Sound.{IsSound}
+use Rattle.xs_model.specs.Accepted.{IsSound}
+use Rattle.xs_model.specs.Spans.{spans_of}
 use Rattle.fz_model.specs.declared.model.FzVar.{FzVar}
 use Rattle.fz_model.specs.declared.model.Goal.TheVariants.{Satisfy}
 use Rattle.fz_model.specs.declared.model.Model.{Model}
@@ -13,11 +14,11 @@ use Rattle.lo_names.specs.Spelling.{spelled}
 use Rattle.lo_names.specs.Shown.{shown_vars}
 use Rattle.lo_base.specs.Item.{Item}
 use Rattle.lo_base.specs.Lowered.{vars_of, calls_of}
-use Rattle.lo_forms.specs.Form.{low_all}
+use Rattle.lo_instance.specs.Form.{low_all}
 
 -- the variables and calls that the instance's constraints are lowered to
 abbrev pub low_items : Instance → List Item
-low_items i = low_all (length (words i.decls)) i.constraints
+low_items i = low_all (spans_of i.decls) (length (words i.decls)) i.constraints
 
 -- named variables, and then what the items make and post
 abbrev pub model_of : List FzVar → List Item → Model

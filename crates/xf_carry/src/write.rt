@@ -6,7 +6,7 @@ ghost use Rattle.fz_file.specs.Layout.{layout, var_line};
 ghost use Rattle.lo_base.specs.Lowered.{vars_of};
 ghost use Rattle.lo_names.specs.Shown.{shown_vars};
 ghost use Rattle.xf_text.specs.Outside.{Appended, AppendedFront, Rose};
-ghost use Rattle.xs_model.specs.Sound.{IsAccepted};
+ghost use Rattle.xs_model.specs.Accepted.{IsAccepted};
 ghost use Rattle.xs_model.specs.Names.{words};
 ghost use Rattle.xf_carry.specs.Lines.{end_lines};
 ghost use Rattle.xf_carry.specs.Lowered.{low, low_items};

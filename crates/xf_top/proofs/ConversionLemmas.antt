@@ -3,7 +3,7 @@ use Rattle.std.proofs.Common.{refl}
 use Rattle.fz_file.specs.Layout.{layout}
 use Rattle.xf_carry.specs.Lowered.{low, LowExtends, LowExtendsOnce}
 use Rattle.xs_model.specs.declared.instance.Instance.{Instance}
-use Rattle.xs_model.specs.Sound.{IsSound}
+use Rattle.xs_model.specs.Accepted.{IsSound}
 use Rattle.xf_top.specs.Theorem.{IsConversion}
 
 pub conversion : LowExtends → LowExtendsOnce → (i : Instance) → IsSound i → IsConversion i (layout (low i))

@@ -11,7 +11,7 @@ ghost use Rattle.xf_top.specs.Ends.{Ends, IsWritten, Completes};
 ghost use Rattle.xf_top.specs.Outcome.{Outcome, Refuses, Writes, WordsComeTo, AtFile, ComesTo};
 ghost use Rattle.xf_top.specs.Theorem.{IsConversion, IsConverted, IsProved};
 ghost use Rattle.xf_top.specs.Words.{command_of, file_of, subject, MayAskFor};
-ghost use Rattle.xs_model.specs.Sound.{IsAccepted};
+ghost use Rattle.xs_model.specs.Accepted.{IsAccepted};
 
 use crate::answers::{Answer, tell};
 use crate::reading::read_instance;

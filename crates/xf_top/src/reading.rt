@@ -3,7 +3,7 @@
 ghost use Rattle.std.specs.Prelude.{◌≡◌, ◌≤◌, true, length, IfOk, IfErr};
 ghost use Rattle.xf_top.specs.Ends.{IsStopped, IsUnread};
 ghost use Rattle.xf_top.specs.Outcome.{IsReadAs, AtFile, most_bytes};
-ghost use Rattle.xs_model.specs.Sound.{IsAccepted};
+ghost use Rattle.xs_model.specs.Accepted.{IsAccepted};
 
 use crate::answers::Answer;
 use std::alloc::Global;

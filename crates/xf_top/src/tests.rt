@@ -2,6 +2,7 @@
 //! says of each.
 
 mod conversions;
+mod expressions;
 mod markup;
 mod refusals;
 mod sections;

@@ -12,6 +12,7 @@ use Rattle.xs_fields.specs.Variables.{bracket_meets, word_meets, word_of}
 use Rattle.xs_fields.specs.Cells.{are_inside}
 use Rattle.xs_fields.specs.Words.{is_byte, parts, words_of}
 use Rattle.xs_fields.specs.declared.condition.Condition.{Condition}
+use Rattle.xs_fields.proofs.FirstLemmas.{all_met, met_at, none_found}
 use Rattle.xs_fields.specs.declared.condition.Condition.TheVariants.{Known, Nesting, Spelling, Magnitude, Naming, Counting, Fitting}
 use Rattle.xs_fields.proofs.IntegerLemmas.{and_left, and_right}
 use Rattle.xs_fields.proofs.OrderLemmas.{earlier_assoc, first_missed-both}
@@ -22,38 +23,6 @@ use Rattle.xs_array.specs.Cells.{stated_sizes}
 use Rattle.xs_array.specs.DomainChild.{cell_word_meets, cell_words_meet, domain_child_meets, for_meets, is_cell_word, is_others}
 use Rattle.xs_array.specs.Owners.{AreCells, HasCells, IsCellWord}
 use Rattle.xs_array.specs.Reading.{HasContent, content_within, spelt_sizes, where_none}
-
-find_none : (t : Condition → Bool) (ks : List Condition) → find (λ k. not (t k)) ks ≡ None → list_all t ks ≡ true
-find_none t [] h = refl
-find_none t (k ∷ ks) h = by (t k) refl (find_none t ks) h
-  where
-    by : (v : Bool) → t k ≡ v → (find (λ j. not (t j)) ks ≡ None → list_all t ks ≡ true) → cond (not v) (Some k) (find (λ j. not (t j)) ks) ≡ None → (t k && list_all t ks) ≡ true
-    by true e more g = ap (λ v. v && list_all t ks) e ∙ more g
-    by false e more g = cc
-
-met_in : (t : Condition → Bool) (k : Condition) → list_all t in_order ≡ true → t k ≡ true
-met_in t Known h = and_left (t Known) (t Nesting && (t Spelling && (t Magnitude && (t Naming && (t Counting && (t Fitting && true)))))) h
-met_in t Nesting h = and_left (t Nesting) (t Spelling && (t Magnitude && (t Naming && (t Counting && (t Fitting && true))))) (and_right (t Known) (t Nesting && (t Spelling && (t Magnitude && (t Naming && (t Counting && (t Fitting && true)))))) h)
-met_in t Spelling h = and_left (t Spelling) (t Magnitude && (t Naming && (t Counting && (t Fitting && true)))) (and_right (t Nesting) (t Spelling && (t Magnitude && (t Naming && (t Counting && (t Fitting && true))))) (and_right (t Known) (t Nesting && (t Spelling && (t Magnitude && (t Naming && (t Counting && (t Fitting && true)))))) h))
-met_in t Magnitude h = and_left (t Magnitude) (t Naming && (t Counting && (t Fitting && true))) (and_right (t Spelling) (t Magnitude && (t Naming && (t Counting && (t Fitting && true)))) (and_right (t Nesting) (t Spelling && (t Magnitude && (t Naming && (t Counting && (t Fitting && true))))) (and_right (t Known) (t Nesting && (t Spelling && (t Magnitude && (t Naming && (t Counting && (t Fitting && true)))))) h)))
-met_in t Naming h = and_left (t Naming) (t Counting && (t Fitting && true)) (and_right (t Magnitude) (t Naming && (t Counting && (t Fitting && true))) (and_right (t Spelling) (t Magnitude && (t Naming && (t Counting && (t Fitting && true)))) (and_right (t Nesting) (t Spelling && (t Magnitude && (t Naming && (t Counting && (t Fitting && true))))) (and_right (t Known) (t Nesting && (t Spelling && (t Magnitude && (t Naming && (t Counting && (t Fitting && true)))))) h))))
-met_in t Counting h = and_left (t Counting) (t Fitting && true) (and_right (t Naming) (t Counting && (t Fitting && true)) (and_right (t Magnitude) (t Naming && (t Counting && (t Fitting && true))) (and_right (t Spelling) (t Magnitude && (t Naming && (t Counting && (t Fitting && true)))) (and_right (t Nesting) (t Spelling && (t Magnitude && (t Naming && (t Counting && (t Fitting && true))))) (and_right (t Known) (t Nesting && (t Spelling && (t Magnitude && (t Naming && (t Counting && (t Fitting && true)))))) h)))))
-met_in t Fitting h = and_left (t Fitting) true (and_right (t Counting) (t Fitting && true) (and_right (t Naming) (t Counting && (t Fitting && true)) (and_right (t Magnitude) (t Naming && (t Counting && (t Fitting && true))) (and_right (t Spelling) (t Magnitude && (t Naming && (t Counting && (t Fitting && true)))) (and_right (t Nesting) (t Spelling && (t Magnitude && (t Naming && (t Counting && (t Fitting && true))))) (and_right (t Known) (t Nesting && (t Spelling && (t Magnitude && (t Naming && (t Counting && (t Fitting && true)))))) h))))))
-
--- where nothing is missed, each condition is met
-pub met_at : (t : Condition → Bool) → first_missed t ≡ None → (k : Condition) → t k ≡ true
-met_at t h k = met_in t k (find_none t in_order h)
-
-none_found : (t : Condition → Bool) (ks : List Condition) → list_all t ks ≡ true → find (λ k. not (t k)) ks ≡ None
-none_found t [] h = refl
-none_found t (k ∷ ks) h = ap (λ v. cond (not v) (Some k) (find (λ j. not (t j)) ks)) (and_left _ _ h) ∙ none_found t ks (and_right _ _ h)
-
-pub all_met : (t : Condition → Bool) → ((k : Condition) → t k ≡ true) → first_missed t ≡ None
-all_met t h = none_found t in_order (all in_order)
-  where
-    all : (ks : List Condition) → list_all t ks ≡ true
-    all [] = refl
-    all (k ∷ ks) = ap (λ v. v && list_all t ks) (h k) ∙ all ks
 
 both_true : {a b : Bool} → a ≡ true → b ≡ true → (a && b) ≡ true
 both_true {a} {b} h g = ap (λ v. v && b) h ∙ g

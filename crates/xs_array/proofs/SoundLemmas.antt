@@ -32,7 +32,8 @@ use Rattle.xs_array.specs.DomainChild.{cell_at, named_by, names_place}
 use Rattle.xs_array.specs.Reading.{with_content}
 use Rattle.xs_array.proofs.CountLemmas.{are_sizes}
 use Rattle.xs_array.proofs.DomainLemmas.{IsSoundCell, text_sound}
-use Rattle.xs_array.proofs.FieldLemmas.{met_at, parts_met}
+use Rattle.xs_array.proofs.FieldLemmas.{parts_met}
+use Rattle.xs_fields.proofs.FirstLemmas.{met_at}
 use Rattle.xs_array.proofs.OwnerLemmas.{all_given, all_map}
 use Rattle.xs_array.proofs.TakenLemmas.{IsClear, declared_sound, same_sizes}
 

@@ -11,7 +11,7 @@ use Rattle.xs_model.specs.declared.decl.Decl.TheVariants.{Array}
 use Rattle.xs_model.specs.Sound.{cell_count, most_cells, most_items, names_of}
 use Rattle.xs_var.specs.Container.{are_children_known}
 use Rattle.xs_var.specs.Elements.{children_of, has_only, text_in, text_or_none, value_in}
-use Rattle.xs_var.specs.Units.{UnitOf}
+use Rattle.xs_var.specs.Units.{UnitOf, unjudged}
 use Rattle.xs_var.specs.VarDomain.{counting_meets, fitting_meets, values_in}
 use Rattle.xs_var.specs.VarUnit.{Declared}
 use Rattle.xs_var.specs.Variable.{as_meets, has_no_child, id_meets, is_blank, is_integer_type, known_meets, names_meet, spelling_meets}
@@ -75,4 +75,4 @@ abbrev pub with_array : Declared → Node → Declared
 with_array s n = with_cells s (text_or_none (value_in (codes "id") n.attrs)) (stated_sizes n) (array_cells s.decls n)
 
 abbrev pub array_unit : Node → UnitOf Declared
-array_unit n = record { place = n.place; meets = λ s. array_meets s n; behind = λ s. with_array s n }
+array_unit n = record { place = n.place; meets = λ s. array_meets s n; judged = unjudged; behind = λ s. with_array s n }

@@ -8,9 +8,10 @@ use Rattle.xs_model.specs.declared.expr.Op.{Op}
 use Rattle.xs_model.specs.declared.expr.Expr.TheVariants.{rolls-Node}
 use Rattle.xs_model.specs.declared.expr.Expr.{Expr, roll-Expr, out-Expr, out-roll-Expr, every_here-Expr, map-Expr, ind-Expr, fold-roll-Expr}
 use Rattle.xs_model.specs.declared.expr.Expr.TheOpen.{Expr-F}
-use Rattle.xs_expr.specs.Bounds.{bounds, bounds_step, and_then, all_ok, prepended, node_bounds, exactly, operand, points, HasVariables, HasSpan, HasSpans}
-use Rattle.xs_expr.specs.Laws.{AreWithin, ValuesAreBounded}
-use Rattle.xs_expr.specs.Shape.{IsCount, HasShape, IsShaped, IsPower, IsExponentLayer, ArePlaced}
+use Rattle.xs_model.specs.Bounds.{bounds, bounds_step, and_then, all_ok, prepended, node_bounds, exactly, operand, points, HasVariables, HasSpan, HasSpans}
+use Rattle.xs_model.specs.Spans.{AreWithin}
+use Rattle.xs_expr.specs.Laws.{ValuesAreBounded}
+use Rattle.xs_model.specs.Shape.{IsCount, HasShape, IsShaped, IsPower, IsExponentLayer, ArePlaced}
 use Rattle.xs_expr.proofs.Every.{every-operands}
 use Rattle.xs_expr.proofs.Exponents.{literal-is}
 use Rattle.xs_expr.proofs.Narrow.{IsInside, Inner, AreInside, SameExponent, limited-inner, operand-inside, node-inner}

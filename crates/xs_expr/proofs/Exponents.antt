@@ -7,9 +7,9 @@ use Rattle.xs_model.specs.declared.expr.Op.{Op}
 use Rattle.xs_model.specs.declared.expr.Expr.{Expr, out-Expr, fold_out-Expr, map-Expr}
 use Rattle.xs_model.specs.declared.expr.Expr.TheOpen.{Expr-F}
 use Rattle.xs_expr.specs.declared.limits.Operands.{Operands}
-use Rattle.xs_expr.specs.Bounds.{bounds, bounds_step, limited, exactly, all_ok}
+use Rattle.xs_model.specs.Bounds.{bounds, bounds_step, limited, exactly, all_ok}
 use Rattle.xs_expr.specs.Operands.{gathered, gathered_of, none}
-use Rattle.xs_expr.specs.Shape.{IsExponent, IsExponentLayer, IsPower}
+use Rattle.xs_model.specs.Shape.{IsExponent, IsExponentLayer, IsPower}
 use Rattle.xs_expr.proofs.Gathered.{gathered-second}
 
 pub small-exponent : (z : ℤ) → IsExponent z → limited (exactly z) ≡ Ok (exactly z)

@@ -9,7 +9,7 @@ use Rattle.xf_text.specs.declared.fault.Kind.TheVariants.{Logic}
 use Rattle.xs_model.specs.declared.expr.Op.{Op}
 use Rattle.xs_model.specs.declared.expr.Op.TheVariants.{Neg, Abs, Sqr, Add, Mul, Sub, Dist, Div, Mod, Pow, Min, Max, Lt, Le, Gt, Ge, Ne, Eq, Set, In, NotIn, Not, And, Or, Xor, Iff, Imp, If}
 use Rattle.xs_expr.specs.declared.limits.Operands.{Operands}
-use Rattle.xs_expr.specs.Bounds.{and_then, truths, is_truth, operand, folded, folded_from, logic, node_bounds}
+use Rattle.xs_model.specs.Bounds.{and_then, truths, is_truth, operand, folded, folded_from, logic, node_bounds}
 use Rattle.xs_expr.specs.Operands.{joined, extended, pushed, none, gathered, gathered_of, logic_of, node_of}
 
 -- a place past another is not the other

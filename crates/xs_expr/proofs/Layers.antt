@@ -6,7 +6,7 @@ use Rattle.xs_model.specs.declared.expr.Op.TheVariants.{Neg, Abs, Sqr, Add, Mul,
 use Rattle.xs_model.specs.declared.expr.Expr.{Expr, Int, Var, Node, the_lemmas}
 use Rattle.xs_expr.specs.Text.{joined_from, name_of, written}
 use Rattle.xs_model.specs.Value.{Worth, val, worth, at, number, apply, node_worth, values_of, second_members}
-use Rattle.xs_expr.specs.Bounds.{bounds, limited, exactly, operand, all_ok, and_then, node_bounds}
+use Rattle.xs_model.specs.Bounds.{bounds, limited, exactly, operand, all_ok, and_then, node_bounds}
 
 pub bounds-Int : (ss : List Bounds) (z : ℤ) → bounds ss (Int z) ≡ limited (exactly z)
 bounds-Int ss z = search (rules, the_lemmas)

@@ -14,7 +14,7 @@ use Rattle.xs_model.specs.declared.expr.Op.{Op}
 use Rattle.xs_model.specs.declared.expr.Op.TheVariants.{Neg, Abs, Sqr, Add, Mul, Sub, Dist, Div, Mod, Pow, Min, Max, Lt, Le, Gt, Ge, Ne, Eq, Set, In, NotIn, Not, And, Or, Xor, Iff, Imp, If}
 use Rattle.xs_model.specs.Sound.{magnitudes}
 use Rattle.xs_model.specs.Value.{exponent_of}
-use Rattle.xs_expr.specs.Bounds.{limited, is_small, is_within_limit, exactly, truths, is_truth, is_divisible, operand, folded, folded_from, logic, node_bounds}
+use Rattle.xs_model.specs.Bounds.{limited, is_small, is_within_limit, exactly, truths, is_truth, is_divisible, operand, folded, folded_from, logic, node_bounds}
 use Rattle.xs_expr.proofs.Within.{AreSmall, guarded, limited-is, no_fault}
 
 -- bounds within others

@@ -1,13 +1,13 @@
 -- The tests of a node's operands are what is asked of them.
-use Rattle.std.proofs.Common.{◌≡◌, ℕ, suc, ◌+◌, ◌<◌, ℤ, refl, sym, ◌∙◌, ap, subst, List, [], ◌∷◌, map, length, drop, get_or, drop-cons, Bool, true, false, ◌&&◌, not, rules, arith, All}
-use Rattle.std.proofs.lemmas.List.Elements.{All-cons, All-head, All-tail}
+use Rattle.std.proofs.Common.{◌≡◌, ℕ, suc, ◌+◌, ◌<◌, ℤ, refl, sym, ◌∙◌, ap, subst, List, [], ◌∷◌, length, drop, get_or, drop-cons, Bool, true, false, ◌&&◌, not, rules, arith, All}
+use Rattle.std.proofs.lemmas.List.Elements.{All-tail}
 use Rattle.xs_model.specs.declared.expr.Op.{Op}
 use Rattle.xs_model.specs.declared.expr.Op.TheVariants.{Neg, Abs, Sqr, Add, Mul, Sub, Dist, Div, Mod, Pow, Min, Max, Lt, Le, Gt, Ge, Ne, Eq, Set, In, NotIn, Not, And, Or, Xor, Iff, Imp, If}
 use Rattle.xs_model.specs.declared.expr.Expr.{Expr, Node, out-Expr, roll-Expr, every_made-Expr}
-use Rattle.xs_model.specs.declared.expr.Expr.TheVariants.{rolls-Node}
 use Rattle.xs_model.specs.declared.expr.Expr.TheOpen.{Expr-F}
-use Rattle.xs_expr.specs.Shape.{IsCount, IsExponentLayer, AreNoSets, IsMembership, IsPower, ArePlaced, HasShape, IsShaped, is_set}
+use Rattle.xs_model.specs.Shape.{IsCount, IsExponentLayer, AreNoSets, IsMembership, IsPower, ArePlaced, HasShape, IsShaped, is_set}
 use Rattle.xs_expr.specs.Shaped.{is_count, is_exponent_layer, is_exponent, is_membership, is_power, are_no_sets, are_placed}
+use Rattle.xs_expr.proofs.Every.{made-node}
 
 both-left : (a b : Bool) → (a && b) ≡ true → a ≡ true
 both-left true b h = refl
@@ -196,32 +196,15 @@ shape-is op es h = (count-is op (length es) (both-left (is_count op (length es))
 pub is-shape : (op : Op) (es : List Expr) → HasShape (Expr-F.Node op es) → (is_count op (length es) && are_placed op es) ≡ true
 is-shape op es h = both (is_count op (length es)) (are_placed op es) (is-count op (length es) h.0) (are-placed op es h.1)
 
--- operands, each beside what is proved of it
-record Beside (P : Expr → Type 0) (es : List Expr) : Type 0 where
-  pairs : List ((e : Expr) × P e)
-  same : map (λ (p : (e : Expr) × P e). p.0) pairs ≡ es
-
-beside : (P : Expr → Type 0) (es : List Expr) → All P es → Beside P es
-beside P [] h = record { pairs = []; same = refl }
-beside P (e ∷ es) h =
-    let below = beside P es (All-tail P e es h) in
-    record { pairs = (e, All-head P e es h) ∷ below.pairs; same = ap (λ (xs : List Expr). e ∷ xs) below.same }
-
 -- an expression is well formed where its root and its operands are
-pub shaped-Node : (op : Op) (es : List Expr) → HasShape (Expr-F.Node op es) → All IsShaped es → IsShaped (roll-Expr (Expr-F.Node op es))
-shaped-Node op es h all =
-    let b = beside IsShaped es all in
-    every_made-Expr HasShape (Expr-F.Node op es) (Expr-F.Node op b.pairs) (ap (Expr-F.Node op) b.same) h
-
 pub shaped-Int : (z : ℤ) → IsShaped (roll-Expr (Expr-F.Int z))
 shaped-Int z = every_made-Expr HasShape (Expr-F.Int z) (Expr-F.Int z) refl tt
 
 pub shaped-Var : (v : ℕ) → IsShaped (roll-Expr (Expr-F.Var v))
 shaped-Var v = every_made-Expr HasShape (Expr-F.Var v) (Expr-F.Var v) refl tt
 
--- the same of an expression that is such a node
 pub shaped-node : (e : Expr) (op : Op) (es : List Expr) → e ≡ Node op es → HasShape (Expr-F.Node op es) → All IsShaped es → IsShaped e
-shaped-node e op es is h all = subst IsShaped (rolls-Node op es ∙ sym is) (shaped-Node op es h all)
+shaped-node e op es is h all = made-node HasShape e op es es is refl h all
 
 rest-at : (i : ℕ) (es : List Expr) (e : Expr) → i < length es → e ≡ get_or es i e → drop i es ≡ e ∷ drop (i + 1) es
 rest-at i es e h is =
@@ -229,8 +212,5 @@ rest-at i es e h is =
     drop-cons es i e h ∙ ap (λ (x : Expr). x ∷ drop (suc i) es) (sym is) ∙ ap (λ (n : ℕ). e ∷ drop n es) (sym k)
 
 -- operands from place i on, and those behind it
-pub shaped-more : (i : ℕ) (es : List Expr) (e : Expr) → i < length es → e ≡ get_or es i e → IsShaped e → All IsShaped (drop (i + 1) es) → All IsShaped (drop i es)
-shaped-more i es e h is d all = subst (All IsShaped) (sym (rest-at i es e h is)) (All-cons IsShaped e (drop (i + 1) es) d all)
-
 pub shaped-fewer : (i : ℕ) (es : List Expr) (e : Expr) → i < length es → e ≡ get_or es i e → All IsShaped (drop i es) → All IsShaped (drop (i + 1) es)
 shaped-fewer i es e h is all = All-tail IsShaped e (drop (i + 1) es) (subst (All IsShaped) (rest-at i es e h is) all)

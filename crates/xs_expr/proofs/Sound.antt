@@ -9,9 +9,9 @@ use Rattle.xs_model.specs.declared.expr.Expr.TheVariants.{rolls-Node}
 use Rattle.xs_model.specs.declared.expr.Expr.{Expr, roll-Expr, out-Expr, out-roll-Expr, every_here-Expr, map-Expr, ind-Expr, fold-roll-Expr, fold_out-Expr, every_made-Expr}
 use Rattle.xs_model.specs.declared.expr.Expr.TheOpen.{Expr-F}
 use Rattle.xs_model.specs.Value.{Worth, val, worth, worth_step, apply, at, second_members}
-use Rattle.xs_expr.specs.Bounds.{bounds, bounds_step, and_then, all_ok, prepended, node_bounds, exactly, operand, points, HasSpan, HasSpans}
-use Rattle.xs_expr.specs.Laws.{AreWithin}
-use Rattle.xs_expr.specs.Shape.{IsCount, HasShape, IsShaped, IsExponent, IsExponentLayer, IsPower, ArePlaced}
+use Rattle.xs_model.specs.Bounds.{bounds, bounds_step, and_then, all_ok, prepended, node_bounds, exactly, operand, points, HasSpan, HasSpans}
+use Rattle.xs_model.specs.Spans.{AreWithin}
+use Rattle.xs_model.specs.Shape.{IsCount, HasShape, IsShaped, IsExponent, IsExponentLayer, IsPower, ArePlaced}
 use Rattle.xs_expr.specs.Worths.{Fits, FitsAt}
 use Rattle.xs_expr.proofs.Every.{every-operands}
 use Rattle.xs_expr.proofs.Exponents.{literal, literal-is}

@@ -9,8 +9,8 @@ use Rattle.xs_model.specs.declared.expr.Expr.{Expr, Int, Var, Node, the_lemmas, 
 use Rattle.xs_model.specs.declared.expr.Expr.TheOpen.{Expr-F}
 use Rattle.xs_expr.specs.declared.limits.Operands.{Operands}
 use Rattle.xs_expr.specs.declared.magnitude.Counted.{Counted}
-use Rattle.xs_expr.specs.Bounds.{bounds, bounds_step, limited, exactly, operand, all_ok, and_then, prepended, node_bounds}
-use Rattle.xs_expr.specs.Magnitude.{Weight, weight, weight_step, weighed, bounds_below, nodes_below}
+use Rattle.xs_model.specs.Bounds.{bounds, bounds_step, limited, exactly, operand, all_ok, and_then, prepended, node_bounds}
+use Rattle.xs_model.specs.Magnitude.{Weight, weight, weight_step, weighed, bounds_below, nodes_below}
 use Rattle.xs_expr.specs.Operands.{pushed, gathered_of}
 use Rattle.xs_expr.specs.Weights.{totalled, counted_of, counted_as}
 

@@ -16,8 +16,8 @@ use Rattle.xs_model.specs.declared.expr.Op.TheVariants.{Neg, Abs, Sqr, Add, Mul,
 use Rattle.xs_model.specs.Sound.{magnitudes}
 use Rattle.xs_model.specs.Value.{at, apply, truth, is_true, power, exponent_of, chosen}
 use Rattle.xs_expr.specs.declared.worth.Values.{Values}
-use Rattle.xs_expr.specs.Bounds.{limited, is_small, is_within_limit, exactly, truths, is_truth, is_divisible, operand, folded, folded_from, logic, node_bounds}
-use Rattle.xs_expr.specs.Shape.{IsExponent}
+use Rattle.xs_model.specs.Bounds.{limited, is_small, is_within_limit, exactly, truths, is_truth, is_divisible, operand, folded, folded_from, logic, node_bounds}
+use Rattle.xs_model.specs.Shape.{IsExponent}
 use Rattle.xs_expr.specs.Worths.{no_values, with_value, with_values, all_values, stepped, StepFits, StepsFit, FitsNode}
 use Rattle.xs_expr.proofs.Powers.{power-is}
 use Rattle.xs_expr.proofs.Totals.{all-first, all-second, all-node}

@@ -1,5 +1,5 @@
 -- The value of a word that is an exponent.
-use Rattle.std.proofs.Common.{◌≡◌, ℤ, pos, negsuc, nat_abs, nat_le, int_le, Bool, true, false, ◌&&◌, if◌then◌else◌, refl, arith, Option, None, Some, Result, Ok, Err}
+use Rattle.std.proofs.Common.{◌≡◌, ℤ, pos, negsuc, int_le, Bool, true, false, ◌&&◌, if◌then◌else◌, refl, arith, Option, None, Some, Ok, Err}
 use Rattle.std.proofs.lemmas.Grind.{common_steps}
 use Rattle.xs_fields.specs.Conditions.{judged}
 use Rattle.xs_fields.specs.Integers.{is_small}

@@ -1,17 +1,11 @@
 -- What the bounds of an expression say of its value.
-use Rattle.std.specs.Prelude.{◌≡◌, ℤ, List, [], ◌∷◌, Ok, IsOk}
+use Rattle.std.specs.Prelude.{◌≡◌, ℤ, List, Ok, IsOk}
 use Rattle.xf_num.specs.Span.{Bounds, IsWithin}
 use Rattle.xs_model.specs.declared.expr.Expr.{Expr}
 use Rattle.xs_model.specs.Value.{val}
-use Rattle.xs_expr.specs.Bounds.{bounds, points, HasSpans}
-use Rattle.xs_expr.specs.Shape.{IsShaped}
-
--- the values lie within the bounds, place by place
-abbrev pub AreWithin : List Bounds → List ℤ → Type 0
-AreWithin [] [] = Unit {0}
-AreWithin (b ∷ bs) (x ∷ xs) = IsWithin b x × AreWithin bs xs
-AreWithin [] (x ∷ xs) = ⊥
-AreWithin (b ∷ bs) [] = ⊥
+use Rattle.xs_model.specs.Bounds.{bounds, points, HasSpans}
+use Rattle.xs_model.specs.Shape.{IsShaped}
+use Rattle.xs_model.specs.Spans.{AreWithin}
 
 -- what follows where no node is at fault within bounds of the variables, for values within these
 pub record IsBounded (e : Expr) (a : List ℤ) (b : Bounds) : Type 0 where

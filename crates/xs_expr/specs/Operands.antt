@@ -7,7 +7,7 @@ use Rattle.xs_model.specs.declared.expr.Op.{Op}
 use Rattle.xs_model.specs.declared.expr.Op.TheVariants.{Neg, Abs, Sqr, Add, Mul, Sub, Dist, Div, Mod, Pow, Min, Max, Lt, Le, Gt, Ge, Ne, Eq, Set, In, NotIn, Not, And, Or, Xor, Iff, Imp, If}
 use Rattle.xs_model.specs.Value.{exponent_of}
 use Rattle.xs_expr.specs.declared.limits.Operands.{Operands}
-use Rattle.xs_expr.specs.Bounds.{limited, and_then, exactly, truths, is_truth, is_divisible}
+use Rattle.xs_model.specs.Bounds.{limited, and_then, exactly, truths, is_truth, is_divisible}
 
 -- the bounds of two operands taken together, for an operator that takes any number of them
 abbrev pub joined : Op → Bounds → Bounds → Result Bounds Kind

@@ -5,7 +5,7 @@ use Rattle.xs_model.specs.declared.expr.Op.{Op}
 use Rattle.xs_model.specs.declared.expr.Op.TheVariants.{Neg, Abs, Sqr, Add, Mul, Min, Max, Eq, Set, In, NotIn, Not, And, Or, Xor, If, Pow}
 use Rattle.xs_model.specs.declared.expr.Expr.{Expr, out-Expr}
 use Rattle.xs_model.specs.declared.expr.Expr.TheOpen.{Expr-F}
-use Rattle.xs_expr.specs.Shape.{is_set}
+use Rattle.xs_model.specs.Shape.{is_set}
 
 abbrev pub is_count : Op → ℕ → Bool
 is_count Neg n = n == 1

@@ -4,7 +4,7 @@ use Rattle.xf_num.specs.Span.{Bounds}
 use Rattle.xf_text.specs.declared.fault.Kind.{Kind}
 use Rattle.xs_expr.specs.declared.magnitude.Counted.{Counted}
 use Rattle.xs_expr.specs.declared.magnitude.Total.{Total}
-use Rattle.xs_expr.specs.Magnitude.{Weight, capped}
+use Rattle.xs_model.specs.Magnitude.{Weight, capped}
 
 -- nodes of these magnitudes
 abbrev pub totalled : List ℕ → Total

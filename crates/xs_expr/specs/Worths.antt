@@ -8,7 +8,7 @@ use Rattle.xs_model.specs.declared.expr.Expr.{Expr, every-Expr}
 use Rattle.xs_model.specs.declared.expr.Expr.TheOpen.{Expr-F}
 use Rattle.xs_model.specs.Value.{val, truth, is_true, absolute, power, exponent_of, chosen, quotient, remainder}
 use Rattle.xs_expr.specs.declared.worth.Values.{Values}
-use Rattle.xs_expr.specs.Shape.{IsCount, IsExponent}
+use Rattle.xs_model.specs.Shape.{IsCount, IsExponent}
 
 -- the other truth value
 abbrev pub flipped : ℤ → ℤ

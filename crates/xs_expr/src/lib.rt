@@ -1,10 +1,9 @@
 //! Expressions of XCSP3-core: their bounds, their values, their magnitudes, how they are written, and the parts from
 //! which a text is read.
 //!
-//! It stands on `xf_num`, `xf_text`, `xf_problem`, `xs_model`, `xs_fields` and `itoa`. Its definitions say which
-//! expressions are well formed (`specs/Shape.antt`), what the bounds of one are and which node of it is at fault
-//! (`specs/Bounds.antt`), what the magnitude of a constraint is (`specs/Magnitude.antt`), and how an expression is
-//! written (`specs/Text.antt`). The calls answer exactly these. `value` is the value that `xs_model` defines, for
+//! It stands on `xf_num`, `xf_text`, `xf_problem`, `xs_model`, `xs_fields` and `itoa`. `xs_model` says which expressions
+//! are well formed, what the bounds of one are and which node of it is at fault, and what the magnitude of a constraint
+//! is; `specs/Text.antt` says how an expression is written. The calls answer exactly these. `value` is the value that `xs_model` defines, for
 //! every expression of which no node is at fault at the given values, and `values_are_bounded` says that this is so
 //! at all values within bounds at which no node is at fault, and that the value then lies within the expression's
 //! bounds.
@@ -28,7 +27,7 @@ mod worth;
 
 pub use depth::is_too_deep;
 pub use limits::bounds;
-pub use magnitude::{judge, judge_expr, mag, mag_expr};
+pub use magnitude::{judge, mag};
 pub use operators::operator;
 pub use shape::is_shaped;
 pub use text::write_expr;

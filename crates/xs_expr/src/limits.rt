@@ -1,7 +1,7 @@
 ghost use Rattle.std.specs.Prelude.{◌≡◌, ◌≤◌, All, IfSome, SomeIff, map};
 ghost use Rattle.xf_num.specs.Span.{Bounds, EndsFit, abs_ends, sub_ends};
-ghost use Rattle.xs_expr.specs.Bounds.{bounds, limited, exactly, truths, is_truth, is_divisible, HasSpans, and_then, all_ok};
-ghost use Rattle.xs_expr.specs.Shape.{IsShaped, IsExponent};
+ghost use Rattle.xs_model.specs.Bounds.{bounds, limited, exactly, truths, is_truth, is_divisible, HasSpans, and_then, all_ok};
+ghost use Rattle.xs_model.specs.Shape.{IsShaped, IsExponent};
 ghost use Rattle.xs_expr.specs.Operands.{joined, pushed, none, gathered_of, extended, node_of, logic_of};
 ghost use Rattle.xs_model.specs.Value.{exponent_of};
 

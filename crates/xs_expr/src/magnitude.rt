@@ -1,12 +1,14 @@
-ghost use Rattle.std.specs.Prelude.{◌∷◌, ◌++◌, [], List, All, IsOk, IfOk, IfErr, Ok, Err, ◌≡◌, ◌≤◌, ◌<◌, ◌^◌, ◌+◌, ◌*◌, ℕ, pos, length, map, sum, SomeIff};
+ghost use Rattle.std.specs.Prelude.{◌∷◌, ◌++◌, [], List, All, IsOk, IfOk, IfErr, OnOk, Ok, Err, ◌≡◌, ◌≤◌, ◌<◌, ◌^◌, ◌+◌, ◌*◌, ℕ, pos, length, map, sum, SomeIff};
 ghost use Rattle.std.specs.List.{AllByRecursion};
 ghost use Rattle.xf_num.specs.Span.{magnitude_of};
-ghost use Rattle.xs_expr.specs.Bounds.{bounds, operand, all_ok, HasSpans};
-ghost use Rattle.xs_expr.specs.Magnitude.{mag, mag_expr, capped, judged, judged_expr, judged_root, total_of, weight, weighed, bounds_below, nodes_below};
+ghost use Rattle.xs_model.specs.Bounds.{bounds, operand, all_ok, HasSpans};
+ghost use Rattle.xs_model.specs.Magnitude.{mag, capped, judged, judged_expr, judged_root, total_of, weight, weighed, bounds_below, nodes_below};
 ghost use Rattle.xs_expr.specs.Operands.{gathered_of, none};
-ghost use Rattle.xs_expr.specs.Shape.{IsShaped};
+ghost use Rattle.xs_model.specs.Shape.{IsShaped};
 ghost use Rattle.xs_expr.specs.Weights.{totalled, counted_of};
-ghost use Rattle.xs_model.specs.Sound.{magnitudes, IsSoundConstraint};
+ghost use Rattle.xs_model.specs.Sound.{magnitudes};
+ghost use Rattle.xs_model.specs.Accepted.{IsFaultless, IsFormed, IsMeasured};
+ghost use Rattle.xs_model.specs.declared.instance.Constraint.TheVariants.{AllDifferent};
 
 use crate::limits::{Operands, is_truth, limited, only};
 use xf_num::Span;
@@ -52,23 +54,12 @@ fn variables(list: &[u32], spans: &[Span]) -> Option<u128>
     total
 }
 
-/// The magnitude of the constraint where variable `i` lies within `spans[i]`: the sum of the greatest magnitudes of
-/// its items and the square of their number. None exactly where it passes 2^126 - 1.
-///
-/// Asks that the constraint is well formed and that each variable has a span.
-pub fn mag(c: &Constraint, spans: &[Span]) -> Option<i128>
-    requires { IsSoundConstraint (length spans.now) c.now }
-    ensures { SomeIff result (mag spans.now c.now ≤ magnitudes) (pos (mag spans.now c.now)) }
+/// The magnitude of a list where variable `i` lies within `spans[i]`.
+fn mag_list(list: &[u32], spans: &[Span]) -> Option<u128>
+    requires { AllByRecursion (λ v. v < length spans.now) list.now }
+    ensures { result ≡ capped (total_of (map (λ v. magnitude_of (operand spans.now v)) list.now)) }
 {
-    let total = match c {
-        Constraint::AllDifferent { list } => {
-            with_square(variables(list.as_slice(), spans), list.len())
-        }
-    };
-    match total {
-        Some(total) => Some(total as i128),
-        None => None,
-    }
+    with_square(variables(list, spans), list.len())
 }
 
 /// The sum of the items' magnitudes and the square of their number.
@@ -78,20 +69,6 @@ fn with_square(sum: Option<u128>, items: usize) -> Option<u128>
     match square(items) {
         Some(square) => plus(sum, square),
         None => None,
-    }
-}
-
-/// Whether no condition on the bounds of the constraint's variables and expressions fails: F10 exactly where its
-/// magnitude passes 2^126 - 1.
-///
-/// Asks that the constraint is well formed and that each variable has a span.
-pub fn judge(c: &Constraint, spans: &[Span]) -> Result<(), Kind>
-    requires { IsSoundConstraint (length spans.now) c.now }
-    ensures { result ≡ judged spans.now c.now }
-{
-    match mag(c, spans) {
-        Some(_) => Ok(()),
-        None => Err(Kind::Range),
     }
 }
 
@@ -217,20 +194,34 @@ fn count_operands(op: Op, items: &[Expr], spans: &[Span]) -> Result<(Operands, T
     Ok((operands, total))
 }
 
-/// The magnitude of an expression where variable `i` lies within `spans[i]`: the sum of the greatest magnitudes of
-/// its nodes and the square of their number. None exactly where it passes 2^126 - 1.
-///
-/// Asks that the expression is well formed, that each variable has a span and that no node is at fault.
-pub fn mag_expr(e: &Expr, spans: &[Span]) -> Option<i128>
+/// The magnitude of an expression of which no node is at fault.
+fn mag_expr(e: &Expr, spans: &[Span]) -> Option<u128>
     requires shaped { IsShaped e.now }
     requires variables { HasSpans spans.now e.now }
     requires bounded { IsOk (bounds spans.now e.now) }
-    ensures { SomeIff result (mag_expr spans.now e.now ≤ magnitudes) (pos (mag_expr spans.now e.now)) }
+    ensures { result ≡ capped (total_of (weighed spans.now e.now).nodes) }
 {
     match count_nodes(e, spans) {
-        Ok(counted) => small(counted.total.whole()),
+        Ok(counted) => counted.total.whole(),
         Err(_) => None,
     }
+}
+
+/// The magnitude of the constraint where variable `i` lies within `spans[i]`: the sum of the greatest magnitudes of
+/// its items, which are its list members, its other integers and variables and the nodes of its expression, and the
+/// square of their number. None exactly where it passes 2^126 - 1.
+///
+/// Asks that the constraint is well formed, that each variable has a span and that no expression is at fault.
+pub fn mag(c: &Constraint, spans: &[Span]) -> Option<i128>
+    requires formed { IsFormed (length spans.now) c.now }
+    requires faultless { IsFaultless spans.now c.now }
+    ensures { SomeIff result (mag spans.now c.now ≤ magnitudes) (pos (mag spans.now c.now)) }
+{
+    let total = match c {
+        Constraint::AllDifferent { list } => mag_list(list.as_slice(), spans),
+        Constraint::Intension { expr } => mag_expr(expr, spans),
+    };
+    small(total)
 }
 
 /// A number of at most the greatest magnitude.
@@ -243,12 +234,8 @@ fn small(number: Option<u128>) -> Option<i128>
     }
 }
 
-/// Whether no condition on bounds fails in an expression that is to hold: F8, F9 or F10 of the first node at fault,
-/// operands before their node; then F8 where its bounds go past 0 and 1; then F10 where its magnitude passes
-/// 2^126 - 1.
-///
-/// Asks that the expression is well formed and that each variable has a span.
-pub fn judge_expr(e: &Expr, spans: &[Span]) -> Result<(), Kind>
+/// The judgement of an expression that is to hold.
+fn judge_expr(e: &Expr, spans: &[Span]) -> Result<(), Kind>
     requires shaped { IsShaped e.now }
     requires variables { HasSpans spans.now e.now }
     ensures { result ≡ judged_expr spans.now e.now }
@@ -269,5 +256,33 @@ fn judge_root(counted: Counted) -> Result<(), Kind>
     match counted.total.whole() {
         Some(_) => Ok(()),
         None => Err(Kind::Range),
+    }
+}
+
+/// The judgement of a list.
+fn judge_list(list: &[u32], spans: &[Span]) -> Result<(), Kind>
+    requires { AllByRecursion (λ v. v < length spans.now) list.now }
+    ensures { result ≡ judged spans.now (AllDifferent list.now) }
+{
+    match mag_list(list, spans) {
+        Some(_) => Ok(()),
+        None => Err(Kind::Range),
+    }
+}
+
+/// Whether no condition on the bounds in a constraint fails, where variable `i` lies within `spans[i]`. Of an
+/// expression it is F8, F9 or F10 of the first node at fault, operands before their node, and then F8 where its bounds
+/// go past 0 and 1. Then it is F10 where the magnitude of the constraint passes 2^126 - 1.
+///
+/// Asks that the constraint is well formed and that each variable has a span.
+pub fn judge(c: &Constraint, spans: &[Span]) -> Result<(), Kind>
+    requires { IsFormed (length spans.now) c.now }
+    ensures value { result ≡ judged spans.now c.now }
+    ensures faultless { OnOk result (IsFaultless spans.now c.now) }
+    ensures measured { OnOk result (IsMeasured spans.now c.now) }
+{
+    match c {
+        Constraint::AllDifferent { list } => judge_list(list.as_slice(), spans),
+        Constraint::Intension { expr } => judge_expr(expr, spans),
     }
 }

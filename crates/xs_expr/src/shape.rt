@@ -1,5 +1,5 @@
 ghost use Rattle.std.specs.Prelude.{◌≡◌, ◌&&◌, true, false, All, length};
-ghost use Rattle.xs_expr.specs.Shape.{is_set, is_set_operator, IsShaped};
+ghost use Rattle.xs_model.specs.Shape.{is_set, is_set_operator, IsShaped};
 ghost use Rattle.xs_expr.specs.Shaped.{is_count, is_exponent, is_membership, is_power, are_no_sets, are_placed};
 
 use xs_model::{Expr, Op};
@@ -96,7 +96,8 @@ fn are_no_sets(operands: &[Expr]) -> bool
     true
 }
 
-fn is_set(e: &Expr) -> bool
+/// Whether it is a set.
+pub(crate) fn is_set(e: &Expr) -> bool
     ensures { result ≡ is_set e.now }
 {
     match e {

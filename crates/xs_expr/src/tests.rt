@@ -1,11 +1,23 @@
-ghost use Rattle.std.specs.Prelude.{◌≡◌, IfOk};
+ghost use Rattle.std.specs.Prelude.{◌≡◌, ◌∷◌, [], codes, pos, All, IfOk, None, Some, length, true};
+ghost use Rattle.std.specs.List.{AllByRecursion};
+ghost use Rattle.xs_model.specs.Bounds.{HasVariables, truths};
+ghost use Rattle.xs_model.specs.Formed.{HasSmallIntegers, IsFormedExpr};
+ghost use Rattle.xs_model.specs.Names.{words};
+ghost use Rattle.xs_model.specs.Sound.{IsSmall, IsSoundDecl};
+ghost use Rattle.xs_model.specs.declared.decl.Decl.{Decl};
 
-use crate::{is_exponent_word, is_shaped, is_too_deep, judge, mag, next_token, operator};
+use crate::limits::{is_truth, only};
+use crate::shape::is_set;
+use crate::{
+    bounds, is_exponent_word, is_shaped, is_too_deep, judge, mag, next_token, operator, value,
+    write_expr,
+};
 use std::alloc::Global;
+use std::str;
 use std::test::Fail;
-use xf_num::{Row, Span, Vars};
+use xf_num::{Domain, NoMemory, Row, Span, Stack, Text, Vars};
 use xf_text::Kind;
-use xs_model::{Constraint, Expr, Op};
+use xs_model::{Cells, Constraint, Decl, Decls, Expr, Op};
 
 /// 2^126 - 1, the greatest magnitude.
 const MOST: i128 = (1 << 126) - 1;
@@ -142,5 +154,561 @@ fn shapes(rt: HostRuntime) -> Result<(), Fail> {
     let inner = pair(alloc, Op::And, Expr::Var(0), Expr::Var(1))?;
     let outer = pair(alloc, Op::Not, inner, Expr::Var(2))?;
     assert!(rt; !is_shaped(&outer));
+    Ok(())
+}
+
+/// A call whose parenthesis is open, and its operands so far.
+#[derive(Debug, Drop)]
+struct Call {
+    op: Op,
+    operands: Row<Expr>,
+}
+
+fn literal(word: &[u8]) -> Option<Expr> {
+    match str::from_utf8(word) {
+        Ok(digits) => match i128::from_str_radix(digits, 10) {
+            Ok(value) => Some(Expr::Int(value)),
+            Err(_) => None,
+        },
+        Err(_) => None,
+    }
+}
+
+// What ends with a token: a call with its parenthesis, or a word.
+fn ended(token: &[u8], calls: &mut Stack<Call>) -> Option<Expr> {
+    match token {
+        [b')'] => match calls.pop() {
+            Some(Call { op, operands }) => Some(Expr::Node(op, operands)),
+            None => None,
+        },
+        [b'x'] => Some(Expr::Var(0)),
+        [b'y'] => Some(Expr::Var(1)),
+        [b'z'] => Some(Expr::Var(2)),
+        word => literal(word),
+    }
+}
+
+// Makes it an operand of the innermost open call, or answers it where no call is open.
+fn placed(calls: &mut Stack<Call>, e: Expr) -> Result<Option<Expr>, NoMemory> {
+    match calls.pop() {
+        Some(Call { op, mut operands }) => {
+            operands.push(e)?;
+            calls.push(Call { op, operands })?;
+            Ok(None)
+        }
+        None => Ok(Some(e)),
+    }
+}
+
+// The expression that a text spells, where `x`, `y` and `z` are the variables 0, 1 and 2.
+fn read(alloc: Global, text: &[u8]) -> Result<Option<Expr>, NoMemory> {
+    let mut calls = Stack::new(alloc);
+    let mut rest = text;
+    for _ in 0..text.len() {
+        let Some((token, behind)) = next_token(rest) else {
+            return Ok(None);
+        };
+        rest = behind;
+        if let Some(op) = operator(token) {
+            let operands = Row::new(alloc);
+            calls.push(Call { op, operands })?;
+        } else if let Some(operand) = ended(token, &mut calls) {
+            if let Some(whole) = placed(&mut calls, operand)? {
+                return Ok(Some(whole));
+            }
+        }
+    }
+    Ok(None)
+}
+
+fn is_small(value: i128) -> bool
+    ensures { result ≡ true → IsSmall value }
+{
+    value.unsigned_abs() <= MOST as u128
+}
+
+// Whether its variables are among the first so many, and its integers at most the greatest magnitude.
+#[cycle(leaves)]
+fn has_leaves(e: &Expr, variables: usize) -> bool
+    ensures variables { result ≡ true → HasVariables variables e.now }
+    ensures small { result ≡ true → HasSmallIntegers e.now }
+{
+    match e {
+        Expr::Int(value) => is_small(*value),
+        Expr::Var(variable) => (*variable as usize) < variables,
+        Expr::Node(_, operands) => have_leaves(operands.as_slice(), variables),
+    }
+}
+
+#[cycle(leaves)]
+fn have_leaves(items: &[Expr], variables: usize) -> bool
+    ensures variables { result ≡ true → All (HasVariables variables) items.now }
+    ensures small { result ≡ true → All HasSmallIntegers items.now }
+{
+    for item in items {
+        if !has_leaves(item, variables) {
+            return false;
+        }
+    }
+    true
+}
+
+// Whether it is well formed over so many variables.
+fn is_formed(e: &Expr, variables: usize) -> bool
+    ensures { result ≡ true → IsFormedExpr variables e.now }
+{
+    is_shaped(e) && !is_set(e) && has_leaves(e, variables)
+}
+
+// The variables of every expression: x is within -2..3, y within 0..5 and z within 1..4.
+fn spans() -> [Span; 3] {
+    [
+        Span::new(-2, 3).unwrap(),
+        Span::new(0, 5).unwrap(),
+        Span::new(1, 4).unwrap(),
+    ]
+}
+
+// The bounds of the expression that a text spells. What is no well formed expression is `Syntax`.
+fn bounded(alloc: Global, text: &[u8]) -> Result<Result<(i128, i128), Kind>, NoMemory> {
+    let spans = spans();
+    match read(alloc, text)? {
+        Some(e) if is_formed(&e, 3) => match bounds(&e, &spans) {
+            Ok(span) => Ok(Ok((span.lo(), span.hi()))),
+            Err(kind) => Ok(Err(kind)),
+        },
+        _ => Ok(Err(Kind::Syntax)),
+    }
+}
+
+// The value of an expression where x is -2, y is 5 and z is 3. None where it is no well formed expression, or where a
+// node is at fault.
+fn valued(alloc: Global, text: &[u8]) -> Result<Option<i128>, NoMemory> {
+    let values = [-2, 5, 3];
+    let spans = [only(-2), only(5), only(3)];
+    match read(alloc, text)? {
+        Some(e) if is_formed(&e, 3) && bounds(&e, &spans).is_ok() => Ok(Some(value(&e, &values))),
+        _ => Ok(None),
+    }
+}
+
+// The judgement of an expression that is to hold.
+fn judged_expression(alloc: Global, text: &[u8]) -> Result<Result<(), Kind>, NoMemory> {
+    let spans = spans();
+    match read(alloc, text)? {
+        Some(e) if is_formed(&e, 3) => {
+            let constraint = Constraint::Intension { expr: e };
+            Ok(judge(&constraint, &spans))
+        }
+        _ => Ok(Err(Kind::Syntax)),
+    }
+}
+
+// The magnitude of an expression that is a truth value and of which no node is at fault. An expression of another
+// kind has the magnitude 0.
+fn weighed(alloc: Global, text: &[u8]) -> Result<Option<i128>, NoMemory> {
+    let spans = spans();
+    match read(alloc, text)? {
+        Some(e) if is_formed(&e, 3) => match bounds(&e, &spans) {
+            Ok(span) if is_truth(span) => {
+                let constraint = Constraint::Intension { expr: e };
+                Ok(mag(&constraint, &spans))
+            }
+            _ => Ok(Some(0)),
+        },
+        _ => Ok(Some(0)),
+    }
+}
+
+#[test]
+fn bounds_of_numbers(rt: HostRuntime) -> Result<(), Fail> {
+    let cases: [(&[u8], (i128, i128)); 27] = [
+        (b"-7", (-7, -7)),
+        (b"x", (-2, 3)),
+        (b"neg(x)", (-3, 2)),
+        (b"abs(x)", (0, 3)),
+        (b"abs(sub(x,7))", (4, 9)),
+        (b"sqr(x)", (0, 9)),
+        (b"add(x,y)", (-2, 8)),
+        (b"add(x,y,-4)", (-6, 4)),
+        (b"mul(x,y)", (-10, 15)),
+        (b"mul(neg(y),neg(z))", (0, 20)),
+        (b"mul(x,x,-1)", (-9, 6)),
+        (b"sub(x,y)", (-7, 3)),
+        (b"dist(x,y)", (0, 7)),
+        (b"dist(z,9)", (5, 8)),
+        (b"div(y,z)", (0, 5)),
+        (b"div(add(y,9),z)", (2, 14)),
+        (b"mod(y,z)", (0, 3)),
+        (b"mod(2,z)", (0, 2)),
+        (b"pow(x,1)", (-2, 3)),
+        (b"pow(x,2)", (0, 9)),
+        (b"pow(x,3)", (-8, 27)),
+        (b"pow(sub(x,4),2)", (1, 36)),
+        (b"min(x,z)", (-2, 3)),
+        (b"min(x,z,2)", (-2, 2)),
+        (b"max(x,y)", (0, 5)),
+        (b"max(x,y,4)", (4, 5)),
+        (b"if(lt(x,y),x,z)", (-2, 4)),
+    ];
+    for (text, wanted) in cases {
+        assert_eq!(rt; bounded(rt.alloc(), text)?, Ok(wanted));
+    }
+    Ok(())
+}
+
+// Also where the operands' bounds leave only one of the two.
+#[test]
+fn bounds_of_truth_values(rt: HostRuntime) -> Result<(), Fail> {
+    let cases: [&[u8]; 18] = [
+        b"lt(x,9)",
+        b"le(x,y)",
+        b"gt(x,y)",
+        b"ge(x,y)",
+        b"ne(x,y)",
+        b"eq(x,x)",
+        b"eq(x,y,z)",
+        b"in(x,set(1,y))",
+        b"in(x,set())",
+        b"notin(x,set(9))",
+        b"not(lt(x,y))",
+        b"not(0)",
+        b"and(lt(x,y),1)",
+        b"or(lt(x,y),0,gt(x,y))",
+        b"xor(le(x,1),1,0)",
+        b"iff(eq(x,1),eq(y,1))",
+        b"imp(1,mod(y,2))",
+        b"imp(eq(x,1),in(z,set(1)))",
+    ];
+    for text in cases {
+        assert_eq!(rt; bounded(rt.alloc(), text)?, Ok((0, 1)));
+    }
+    Ok(())
+}
+
+#[test]
+fn faults_of_operands(rt: HostRuntime) -> Result<(), Fail> {
+    let cases: [(&[u8], Kind); 14] = [
+        (b"and(y,1)", Kind::Logic),
+        (b"or(0,x)", Kind::Logic),
+        (b"xor(1,1,z)", Kind::Logic),
+        (b"not(x)", Kind::Logic),
+        (b"iff(1,2)", Kind::Logic),
+        (b"imp(-1,1)", Kind::Logic),
+        (b"if(z,1,2)", Kind::Logic),
+        (b"div(x,z)", Kind::Division),
+        (b"div(z,y)", Kind::Division),
+        (b"mod(x,z)", Kind::Division),
+        (b"mod(z,y)", Kind::Division),
+        (b"div(not(y),x)", Kind::Logic),
+        (b"and(y,div(x,z))", Kind::Division),
+        (b"in(x,set(1,not(y),div(x,z)))", Kind::Logic),
+    ];
+    for (text, wanted) in cases {
+        assert_eq!(rt; bounded(rt.alloc(), text)?, Err(wanted));
+    }
+    Ok(())
+}
+
+// 2^100 and 2^126 - 1 stand in these texts. The last two have a second fault, in a later operand and in the node.
+#[test]
+fn faults_of_magnitude(rt: HostRuntime) -> Result<(), Fail> {
+    let cases: [&[u8]; 10] = [
+        b"add(85070591730234615865843651857942052863,1)",
+        b"add(85070591730234615865843651857942052863,1,-1)",
+        b"sub(x,85070591730234615865843651857942052863)",
+        b"dist(-85070591730234615865843651857942052863,z)",
+        b"mul(1267650600228229401496703205376,1267650600228229401496703205376,0)",
+        b"sqr(1267650600228229401496703205376)",
+        b"pow(8,42)",
+        b"pow(8,43)",
+        b"add(sqr(1267650600228229401496703205376),not(y))",
+        b"not(sqr(1267650600228229401496703205376))",
+    ];
+    for text in cases {
+        assert_eq!(rt; bounded(rt.alloc(), text)?, Err(Kind::Range));
+    }
+    assert_eq!(rt;
+        bounded(
+            rt.alloc(),
+            b"if(div(x,z),sqr(1267650600228229401496703205376),1)"
+        )?,
+        Err(Kind::Division)
+    );
+    Ok(())
+}
+
+#[test]
+fn bounds_up_to_the_greatest_magnitude(rt: HostRuntime) -> Result<(), Fail> {
+    let cases: [(&[u8], (i128, i128)); 5] = [
+        (b"85070591730234615865843651857942052863", (MOST, MOST)),
+        (
+            b"neg(85070591730234615865843651857942052863)",
+            (-MOST, -MOST),
+        ),
+        (
+            b"add(85070591730234615865843651857942052862,1,-1)",
+            (MOST - 1, MOST - 1),
+        ),
+        (
+            b"sub(x,85070591730234615865843651857942052861)",
+            (-MOST, 5 - MOST),
+        ),
+        (
+            b"add(pow(8,41),74436767763955288882613195375699296255)",
+            (MOST, MOST),
+        ),
+    ];
+    for (text, wanted) in cases {
+        assert_eq!(rt; bounded(rt.alloc(), text)?, Ok(wanted));
+    }
+    Ok(())
+}
+
+#[test]
+fn values_of_numbers(rt: HostRuntime) -> Result<(), Fail> {
+    let cases: [(&[u8], i128); 22] = [
+        (b"-7", -7),
+        (b"x", -2),
+        (b"neg(x)", 2),
+        (b"abs(x)", 2),
+        (b"sqr(x)", 4),
+        (b"add(x,y,z)", 6),
+        (b"mul(x,y,z)", -30),
+        (b"sub(x,y)", -7),
+        (b"dist(x,y)", 7),
+        (b"div(y,z)", 1),
+        (b"div(add(y,4),z)", 3),
+        (b"div(0,z)", 0),
+        (b"mod(y,z)", 2),
+        (b"mod(14,z)", 2),
+        (b"mod(9,z)", 0),
+        (b"pow(x,3)", -8),
+        (b"pow(y,1)", 5),
+        (b"min(y,x,z)", -2),
+        (b"min(y,z)", 3),
+        (b"max(x,y,z)", 5),
+        (b"if(lt(x,y),y,z)", 5),
+        (b"if(gt(x,y),y,z)", 3),
+    ];
+    for (text, wanted) in cases {
+        assert_eq!(rt; valued(rt.alloc(), text)?, Some(wanted));
+    }
+    Ok(())
+}
+
+#[test]
+fn values_of_comparisons(rt: HostRuntime) -> Result<(), Fail> {
+    let cases: [(&[u8], i128); 20] = [
+        (b"lt(x,y)", 1),
+        (b"lt(y,y)", 0),
+        (b"le(y,y)", 1),
+        (b"le(y,x)", 0),
+        (b"gt(y,x)", 1),
+        (b"gt(y,y)", 0),
+        (b"ge(y,y)", 1),
+        (b"ge(x,y)", 0),
+        (b"ne(x,y)", 1),
+        (b"ne(y,5)", 0),
+        (b"eq(y,5)", 1),
+        (b"eq(y,5,add(x,7))", 1),
+        (b"eq(y,5,z)", 0),
+        (b"eq(z,y,y)", 0),
+        (b"in(x,set(1,neg(2)))", 1),
+        (b"in(y,set(1,x))", 0),
+        (b"in(x,set())", 0),
+        (b"notin(y,set(1,x))", 1),
+        (b"notin(y,set(y,4))", 0),
+        (b"notin(x,set())", 1),
+    ];
+    for (text, wanted) in cases {
+        assert_eq!(rt; valued(rt.alloc(), text)?, Some(wanted));
+    }
+    Ok(())
+}
+
+#[test]
+fn values_of_connectives(rt: HostRuntime) -> Result<(), Fail> {
+    let cases: [(&[u8], i128); 22] = [
+        (b"not(lt(x,y))", 0),
+        (b"not(0)", 1),
+        (b"and(1,1)", 1),
+        (b"and(1,lt(x,y),0)", 0),
+        (b"and(0,1)", 0),
+        (b"or(0,0)", 0),
+        (b"or(0,gt(y,z))", 1),
+        (b"or(1,0,0)", 1),
+        (b"xor(0,0,0)", 0),
+        (b"xor(0,1,0)", 1),
+        (b"xor(1,1,0)", 0),
+        (b"xor(1,1,1)", 1),
+        (b"iff(0,0)", 1),
+        (b"iff(0,1)", 0),
+        (b"iff(1,0)", 0),
+        (b"iff(1,1)", 1),
+        (b"imp(0,0)", 1),
+        (b"imp(0,1)", 1),
+        (b"imp(1,0)", 0),
+        (b"imp(1,1)", 1),
+        (b"if(0,x,y)", 5),
+        (b"if(1,x,y)", -2),
+    ];
+    for (text, wanted) in cases {
+        assert_eq!(rt; valued(rt.alloc(), text)?, Some(wanted));
+    }
+    Ok(())
+}
+
+// The root of each is to be a truth value, and 2^126 - 1 stands in some.
+#[test]
+fn judgements(rt: HostRuntime) -> Result<(), Fail> {
+    let cases: [(&[u8], Result<(), Kind>); 13] = [
+        (b"le(add(x,y),3)", Ok(())),
+        (b"in(x,set(1,2))", Ok(())),
+        (b"1", Ok(())),
+        (b"mod(y,2)", Ok(())),
+        (b"x", Err(Kind::Logic)),
+        (b"add(x,y)", Err(Kind::Logic)),
+        (b"eq(not(y),1)", Err(Kind::Logic)),
+        (b"eq(div(x,z),1)", Err(Kind::Division)),
+        (b"sub(div(x,z),9)", Err(Kind::Division)),
+        (
+            b"le(add(85070591730234615865843651857942052863,1,-1),x)",
+            Err(Kind::Range),
+        ),
+        (
+            b"add(85070591730234615865843651857942052863,85070591730234615865843651857942052863)",
+            Err(Kind::Range),
+        ),
+        (b"85070591730234615865843651857942052863", Err(Kind::Logic)),
+        (
+            b"ne(x,85070591730234615865843651857942052863)",
+            Err(Kind::Range),
+        ),
+    ];
+    for (text, wanted) in cases {
+        assert_eq!(rt; judged_expression(rt.alloc(), text)?, wanted);
+    }
+    Ok(())
+}
+
+// Each is the sum of the magnitudes of the nodes, operands before their node, and of the square of their number. The
+// last but one is 3 + (2^126 - 14) + 1 + 9, and the last one more.
+#[test]
+fn magnitudes_of_expressions(rt: HostRuntime) -> Result<(), Fail> {
+    let cases: [(&[u8], Option<i128>, Result<(), Kind>); 7] = [
+        (b"1", Some(1 + 1), Ok(())),
+        (b"not(lt(x,y))", Some(3 + 5 + 1 + 1 + 16), Ok(())),
+        (b"le(add(x,y),3)", Some(3 + 5 + 8 + 3 + 1 + 25), Ok(())),
+        (b"in(x,set(1,-4))", Some(3 + 1 + 4 + 0 + 1 + 25), Ok(())),
+        (
+            b"eq(mul(x,neg(y)),pow(z,2))",
+            Some(3 + 5 + 5 + 15 + 4 + 2 + 16 + 1 + 64),
+            Ok(()),
+        ),
+        (
+            b"le(x,-85070591730234615865843651857942052850)",
+            Some(MOST),
+            Ok(()),
+        ),
+        (
+            b"le(x,-85070591730234615865843651857942052851)",
+            None,
+            Err(Kind::Range),
+        ),
+    ];
+    for (text, wanted, judgement) in cases {
+        assert_eq!(rt; weighed(rt.alloc(), text)?, wanted);
+        assert_eq!(rt; judged_expression(rt.alloc(), text)?, judgement);
+    }
+    Ok(())
+}
+
+fn text(alloc: Global, bytes: &[u8]) -> Result<Text, NoMemory>
+    ensures { IfOk result (λ text. text ≡ bytes.now) }
+{
+    let mut text = Row::new(alloc);
+    text.extend(bytes)?;
+    Ok(text)
+}
+
+fn bit(alloc: Global) -> Result<Domain, NoMemory>
+    ensures { IfOk result (λ domain. domain ≡ truths ∷ []) }
+{
+    Domain::of(Span::new(0, 1).unwrap(), alloc)
+}
+
+fn one(alloc: Global) -> Result<Decl, NoMemory>
+    ensures { IfOk result (λ d. d ≡ Decl.One (codes "v") (truths ∷ [])) }
+{
+    let name = text(alloc, b"v")?;
+    let domain = bit(alloc)?;
+    Ok(Decl::One { name, domain })
+}
+
+fn cells(alloc: Global) -> Result<Cells, NoMemory>
+    ensures { IfOk result (λ cells. cells ≡ Some (truths ∷ []) ∷ None ∷ Some (truths ∷ []) ∷ []) }
+{
+    let mut cells = Row::new(alloc);
+    cells.push(Some(bit(alloc)?))?;
+    cells.push(None)?;
+    cells.push(Some(bit(alloc)?))?;
+    Ok(cells)
+}
+
+fn array(alloc: Global) -> Result<Decl, NoMemory>
+    ensures { IfOk result (λ d. d ≡ Decl.Array (codes "c") (pos 3 ∷ []) (Some (truths ∷ []) ∷ None ∷ Some (truths ∷ []) ∷ [])) }
+{
+    let name = text(alloc, b"c")?;
+    let mut sizes = Row::new(alloc);
+    sizes.push(3)?;
+    let cells = cells(alloc)?;
+    Ok(Decl::Array { name, sizes, cells })
+}
+
+// The variable v, and an array c of three cells, the second of which is undefined.
+fn decls(alloc: Global) -> Result<Decls, NoMemory>
+    ensures sound { IfOk result (AllByRecursion IsSoundDecl) }
+    ensures words { IfOk result (λ decls. length (words decls) ≡ 3) }
+{
+    let mut decls = Row::new(alloc);
+    decls.push(one(alloc)?)?;
+    decls.push(array(alloc)?)?;
+    Ok(decls)
+}
+
+// The expression that a text spells, written over these declarations. None where it is no well formed expression.
+fn written(alloc: Global, text: &[u8], decls: &Decls) -> Result<Option<Vec<u8>>, NoMemory>
+    requires sound { AllByRecursion IsSoundDecl decls.now }
+    requires words { length (words decls.now) ≡ 3 }
+{
+    match read(alloc, text)? {
+        Some(e) if is_formed(&e, 3) => Ok(Some(write_expr(alloc, &e, decls)?)),
+        _ => Ok(None),
+    }
+}
+
+#[test]
+fn texts(rt: HostRuntime) -> Result<(), Fail> {
+    let cases: [(&[u8], &[u8]); 5] = [
+        (b" -12 ", b"-12"),
+        (b" z ", b"c[2]"),
+        (b"notin( x, set( ) )", b"notin(v,set())"),
+        (
+            b"if( in( z, set( -3, 0 ) ), add( x, y, 7 ), neg( sqr(y) ) )",
+            b"if(in(c[2],set(-3,0)),add(v,c[0],7),neg(sqr(c[0])))",
+        ),
+        (
+            b"imp(xor(le(x, y), not(ne(x, 1)), 0), eq(pow(x, 2), dist(z, -1), z))",
+            b"imp(xor(le(v,c[0]),not(ne(v,1)),0),eq(pow(v,2),dist(c[2],-1),c[2]))",
+        ),
+    ];
+    let decls = decls(rt.alloc())?;
+    for (text, wanted) in cases {
+        match written(rt.alloc(), text, &decls)? {
+            Some(text) => assert!(rt; text.as_slice() == wanted),
+            None => assert!(rt; false),
+        }
+    }
     Ok(())
 }

@@ -1,7 +1,7 @@
 ghost use Rattle.std.specs.Prelude.{◌≡◌, ◌++◌, [], codes, All, IfOk, OnOk, length, map};
 ghost use Rattle.std.specs.Fmt.{signed_decimal};
 ghost use Rattle.std.specs.List.{AllByRecursion};
-ghost use Rattle.xs_expr.specs.Bounds.{HasVariables};
+ghost use Rattle.xs_model.specs.Bounds.{HasVariables};
 ghost use Rattle.xs_expr.specs.Text.{name_of, joined_from, written};
 ghost use Rattle.xs_model.specs.Names.{words};
 ghost use Rattle.xs_model.specs.Sound.{IsSoundDecl};

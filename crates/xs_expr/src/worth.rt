@@ -2,9 +2,9 @@ ghost use Rattle.std.specs.Prelude.{◌≡◌, pos, ◌≤ℤ◌, ◌+ℤ◌, �
 ghost use Rattle.std.specs.Int.{w128};
 ghost use Rattle.std.specs.List.{list_any};
 ghost use Rattle.std.specs.Ordering.{int_eq};
-ghost use Rattle.xs_expr.specs.Bounds.{bounds, points, HasSpans};
+ghost use Rattle.xs_model.specs.Bounds.{bounds, points, HasSpans};
 ghost use Rattle.xs_expr.specs.Laws.{ValuesAreBounded};
-ghost use Rattle.xs_expr.specs.Shape.{IsShaped, IsExponent};
+ghost use Rattle.xs_model.specs.Shape.{IsShaped, IsExponent};
 ghost use Rattle.xs_expr.specs.Worths.{flipped, stepped, start, no_values, with_value, all_values, StepFits, StepsFit, node_value, NodeFits, Fits};
 ghost use Rattle.xs_model.specs.Value.{at, val, worth, second_members, power, exponent_of, absolute};
 

@@ -5,3 +5,4 @@ pub mod CellLemmas
 pub mod NamingLemmas
 pub mod IntegerLemmas
 pub mod CompareLemmas
+pub mod FirstLemmas

@@ -1,11 +1,14 @@
 -- What is held of an instance while it is read.
 use Rattle.std.specs.Prelude.{◌≡◌, ℕ, ◌+◌, ◌<◌, ◌≤◌, ◌^◌, List, length, map, sum}
 use Rattle.std.specs.List.{AllByRecursion}
+use Rattle.xf_num.specs.Span.{Bounds}
 use Rattle.xs_file.specs.Sections.{Progress}
 use Rattle.xs_model.specs.declared.instance.Constraint.{Constraint}
 use Rattle.xs_model.specs.Names.{words}
-use Rattle.xs_model.specs.Outline.{outlines_of, variables_in}
-use Rattle.xs_model.specs.Sound.{IsSoundConstraint, items_of, most_constraints, most_items}
+use Rattle.xs_model.specs.Outline.{outlines_of}
+use Rattle.xs_model.specs.Spans.{spans_of}
+use Rattle.xs_model.specs.Accepted.{IsMeasured, IsSoundConstraint, items_of, most_constraints}
+use Rattle.xs_model.specs.Sound.{most_items}
 use Rattle.xs_vars.specs.Declarations.{IsSoundDeclared, declared_of}
 use Rattle.xs_vars.specs.declared.declarations.Declarations.{Declarations}
 
@@ -18,10 +21,13 @@ pub record IsWhole (d : Declarations) : Type 0 where
   pub sound : IsSoundDeclared (declared_of d)
   pub few : length (words d.decls) < 2 ^ 32
 
--- these declarations, sound constraints over their variables, and the items of both, within the limits
-pub record IsHeld (d : Declarations) (cs : List Constraint) (counted : ℕ) : Type 0 where
+-- these declarations and the bounds of their variables, sound constraints over these, and the items of both, within the
+-- limits
+pub record IsHeld (d : Declarations) (ss : List Bounds) (cs : List Constraint) (counted : ℕ) : Type 0 where
   pub whole : IsWhole d
   pub items : counted ≡ d.values + sum (map items_of cs)
   pub few_items : counted ≤ most_items
-  pub constraints : AllByRecursion (IsSoundConstraint (variables_in (outlines_of d.decls))) cs
+  pub spans : ss ≡ spans_of d.decls
+  pub constraints : AllByRecursion (IsSoundConstraint (spans_of d.decls)) cs
+  pub measured : AllByRecursion (IsMeasured (spans_of d.decls)) cs
   pub few_constraints : length cs ≤ most_constraints

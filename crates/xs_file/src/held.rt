@@ -1,16 +1,17 @@
 //! What is read of an instance so far.
 
-ghost use Rattle.std.specs.Prelude.{◌≡◌, ◌≤◌, ◌<◌, nat_lt, length, OnOk, OnErr};
+ghost use Rattle.std.specs.Prelude.{◌≡◌, ◌≤◌, ◌<◌, nat_lt, length, IfOk, OnOk, OnErr};
 ghost use Rattle.xs_file.specs.Sections.{begun, instance_of, left_of, with_constraint};
 ghost use Rattle.xs_model.specs.Outline.{outlines_of, variables_in};
-ghost use Rattle.xs_model.specs.Sound.{IsAccepted, IsSoundConstraint, items_of, most_constraints};
+ghost use Rattle.xs_model.specs.Spans.{spans_of};
+ghost use Rattle.xs_model.specs.Accepted.{IsAccepted, IsMeasured, IsSoundConstraint, items_of, most_constraints};
 ghost use Rattle.xs_file.specs.Held.{IsWhole};
 ghost use Rattle.xs_vars.specs.Declarations.{declared_of};
 
 use std::alloc::Global;
 use std::marker::Model;
-use xf_num::{NoMemory, Row};
-use xs_model::{Constraint, Constraints, Instance, Names};
+use xf_num::{NoMemory, Row, Span, Spans};
+use xs_model::{Constraint, Constraints, Instance, Names, count_items, spans};
 use xs_vars::Declarations;
 
 /// The greatest number of items: values of domains, and members of lists.
@@ -23,6 +24,7 @@ const MOST_CONSTRAINTS: usize = 67_108_864;
 #[derive(Drop)]
 pub struct Held {
     declarations: Declarations,
+    spans: Spans,
     constraints: Constraints,
     items: u64,
 }
@@ -30,35 +32,32 @@ pub struct Held {
 impl Model for Held {
     ghost use Rattle.xs_file.specs.Sections.{Progress};
     ghost use Rattle.xs_file.specs.Held.{IsHeld, progress_of};
+    ghost use Rattle.xs_model.specs.contracts.expr.Expr as e;
+    ghost use Rattle.std.specs.Coded.{codes};
 
     ghost Value = { Progress };
 
+    ghost coded = { Prim.hlevel (codes, e.the_row.coded) };
+
     ghost view = { λ h. progress_of h.declarations h.constraints };
 
-    ghost invariant = { λ h. IsHeld h.declarations h.constraints h.items };
-}
-
-// How many items a constraint has.
-fn items_of(constraint: &Constraint) -> u64
-    ensures { result ≡ items_of constraint.now }
-{
-    match constraint {
-        Constraint::AllDifferent { list } => list.len() as u64,
-    }
+    ghost invariant = { λ h. IsHeld h.declarations h.spans h.constraints h.items };
 }
 
 impl Held {
     /// The declarations, and no constraint yet.
-    pub fn new(alloc: Global, declarations: Declarations) -> Held
+    pub fn new(alloc: Global, declarations: Declarations) -> Result<Held, NoMemory>
         requires { IsWhole declarations }
-        ensures { result ≡ begun (declared_of declarations) }
+        ensures { IfOk result (λ h. h ≡ begun (declared_of declarations)) }
     {
+        let spans = spans(alloc, declarations.decls.as_slice())?;
         let items = declarations.values;
-        Held {
+        Ok(Held {
             declarations,
+            spans,
             constraints: Row::new(alloc),
             items,
-        }
+        })
     }
 
     /// The names of the declarations.
@@ -66,6 +65,13 @@ impl Held {
         ensures { result.now ≡ outlines_of self.now.declared.decls }
     {
         &self.declarations.names
+    }
+
+    /// The bounds of the variables.
+    pub fn spans(&self) -> &[Span]
+        ensures { result.now ≡ spans_of self.now.declared.decls }
+    {
+        self.spans.as_slice()
     }
 
     /// How many items may still come.
@@ -84,13 +90,14 @@ impl Held {
 
     /// Appends a constraint, or changes nothing.
     pub fn add(&mut self, constraint: Constraint) -> Result<(), NoMemory>
-        requires sound { IsSoundConstraint (variables_in (outlines_of self.old.declared.decls)) constraint }
+        requires sound { IsSoundConstraint (spans_of self.old.declared.decls) constraint }
+        requires measured { IsMeasured (spans_of self.old.declared.decls) constraint }
         requires items { items_of constraint ≤ left_of self.old }
         requires few { length self.old.constraints < most_constraints }
         ensures ok { OnOk result (self.new ≡ with_constraint self.old constraint) }
         ensures err { OnErr result (self.new ≡ self.old) }
     {
-        let items = items_of(&constraint);
+        let items = count_items(&constraint);
         self.constraints.push(constraint)?;
         self.items += items;
         Ok(())

@@ -4,7 +4,7 @@ ghost use Rattle.std.specs.Prelude.{◌≡◌, ◌⊎◌, Ok, Err, IfOk, IfErr};
 ghost use Rattle.xf_text.specs.declared.fault.Fault.{Fault as TheFault};
 ghost use Rattle.xf_text.specs.declared.fault.Stop.TheVariants.{Memory, Refused};
 ghost use Rattle.xs_file.specs.Reading.{IsFaulty, IsRefusal, OneReading, Spells};
-ghost use Rattle.xs_model.specs.Sound.{IsAccepted};
+ghost use Rattle.xs_model.specs.Accepted.{IsAccepted};
 ghost use Rattle.xs_model.specs.declared.instance.Instance.{Instance as TheInstance};
 
 use crate::sections::read_root;

@@ -1,13 +1,15 @@
 //! The sections of an instance.
 
-ghost use Rattle.std.specs.Prelude.{◌≡◌, ◌≢◌, ◌∷◌, [], map, nat_lt, length, IfOk, MatchOption};
+ghost use Rattle.std.specs.Prelude.{◌≡◌, ◌≢◌, ◌≤◌, ◌<◌, ◌∷◌, [], map, nat_lt, length, None, IfOk, OnOk, MatchOption};
 ghost use Rattle.std.specs.List.{flat_map};
+ghost use Rattle.std.specs.Result.{result_err};
 ghost use Rattle.xf_text.specs.declared.fault.Stop.TheVariants.{Refused as StopRefused};
 ghost use Rattle.xs_fields.specs.Conditions.{IsOrMemory, answer, kind_of};
-ghost use Rattle.xs_file.specs.Sections.{Progress, begun, behind_declared, constraint_meets, constraint_unit, constraints_meet, container_unit, instance_outcome, objective_unit, objectives_meet, section_units, sections_outcome};
+ghost use Rattle.xs_file.specs.Sections.{Progress, begun, behind_declared, constraint_behind, constraint_meets, constraint_unit, constraints_meet, container_unit, form_meets, instance_outcome, left_of, objective_unit, objectives_meet, section_units, sections_outcome, with_constraint};
 ghost use Rattle.xs_model.specs.Outline.{outlines_of, variables_in};
-ghost use Rattle.xs_model.specs.Sound.{IsSoundConstraint};
-ghost use Rattle.xs_relate.specs.Different.{different_of};
+ghost use Rattle.xs_model.specs.Spans.{spans_of};
+ghost use Rattle.xs_model.specs.Accepted.{IsFormed, IsMeasured, IsSoundConstraint, items_of, most_constraints};
+ghost use Rattle.xs_model.specs.Magnitude.{judged};
 ghost use Rattle.xs_var.specs.Elements.{children_of};
 ghost use Rattle.xs_var.specs.Taken.{IsRead};
 ghost use Rattle.xs_var.specs.Units.{outcome};
@@ -17,35 +19,82 @@ use crate::held::Held;
 use crate::judge::{judge_constraints, judge_instance, judge_objectives};
 use std::alloc::Global;
 use xf_markup::{Node, Piece};
-use xf_num::Row;
+use xf_num::{NoMemory, Row};
 use xf_text::{Fault, FieldStop, Kind, Stop};
+use xs_expr::judge;
 use xs_fields::Condition;
 use xs_model::Constraint;
-use xs_relate::{next_child, read_different};
+use xs_relate::{next_child, read_different, read_intension};
 use xs_vars::read_declarations;
+
+// A unit at this place has a fault of this kind.
+fn fault(kind: Kind, place: u64) -> Stop
+    ensures { result ≡ StopRefused (record { kind = kind; place = place }) }
+{
+    Stop::Refused(Fault { kind, place })
+}
 
 // A unit at this place misses the condition first.
 fn refused(missed: Condition, place: u64) -> Stop
     ensures { result ≡ StopRefused (record { kind = kind_of missed; place = place }) }
 {
-    Stop::Refused(Fault {
-        kind: missed.kind(),
-        place,
-    })
+    fault(missed.kind(), place)
+}
+
+// The constraint of a form that is known.
+fn read_form(alloc: Global, node: &Node, held: &Held) -> Result<Constraint, FieldStop>
+    ensures value { IsOrMemory result (answer (form_meets held.now node.now) (constraint_behind held.now node.now)) }
+    ensures formed { IfOk result (λ c. IsFormed (variables_in (outlines_of held.now.declared.decls)) c) }
+    ensures few { IfOk result (λ c. items_of c ≤ left_of held.now) }
+{
+    let name = node.name.as_slice();
+    if name == b"allDifferent".as_slice() {
+        read_different(alloc, node, held.names(), held.left())
+    } else if name == b"intension".as_slice() {
+        read_intension(alloc, node, held.names(), held.left())
+    } else {
+        Err(FieldStop::Refused(Kind::Unknown))
+    }
 }
 
 // The constraint of a child of `constraints`, behind what is read.
 fn read_constraint(alloc: Global, node: &Node, held: &Held) -> Result<Constraint, FieldStop>
-    ensures value { IsOrMemory result (answer (constraint_meets held.now node.now) (different_of (outlines_of held.now.declared.decls) node.now)) }
-    ensures sound { IfOk result (λ c. IsSoundConstraint (variables_in (outlines_of held.now.declared.decls)) c) }
+    ensures value { IsOrMemory result (answer (constraint_meets held.now node.now) (constraint_behind held.now node.now)) }
+    ensures formed { IfOk result (λ c. IsFormed (variables_in (outlines_of held.now.declared.decls)) c) }
+    ensures few { IfOk result (λ c. items_of c ≤ left_of held.now) }
+    ensures room { OnOk result (length held.now.constraints < most_constraints) }
 {
-    if node.name.as_slice() != b"allDifferent".as_slice() {
-        return Err(FieldStop::Refused(Kind::Unknown));
-    }
-    match read_different(alloc, node, held.names(), held.left()) {
+    match read_form(alloc, node, held) {
         Ok(constraint) if held.has_room() => Ok(constraint),
         Ok(_) => Err(FieldStop::Refused(Kind::Many)),
         Err(stop) => Err(stop),
+    }
+}
+
+// Whether a constraint is in order within the bounds of the variables.
+fn judge_constraint(constraint: &Constraint, held: &Held) -> Result<(), Kind>
+    requires { IsFormed (variables_in (outlines_of held.now.declared.decls)) constraint.now }
+    ensures value { result ≡ judged (spans_of held.now.declared.decls) constraint.now }
+    ensures sound { OnOk result (IsSoundConstraint (spans_of held.now.declared.decls) constraint.now) }
+    ensures measured { OnOk result (IsMeasured (spans_of held.now.declared.decls) constraint.now) }
+{
+    judge(constraint, held.spans())
+}
+
+// Appends a constraint that is in order; else the kind of its fault.
+fn add_judged(constraint: Constraint, held: &mut Held) -> Result<Option<Kind>, NoMemory>
+    requires formed { IsFormed (variables_in (outlines_of held.old.declared.decls)) constraint }
+    requires items { items_of constraint ≤ left_of held.old }
+    requires few { length held.old.constraints < most_constraints }
+    ensures value { IfOk result (λ fault. fault ≡ result_err (judged (spans_of held.old.declared.decls) constraint)) }
+    ensures added { IfOk result (λ fault. fault ≡ None → held.new ≡ with_constraint held.old constraint) }
+{
+    match judge_constraint(&constraint, held) {
+        Ok(()) => {
+            held.add(constraint)?;
+            Ok(None)
+        }
+        Err(kind) => Ok(Some(kind)),
     }
 }
 
@@ -54,14 +103,11 @@ fn add_constraint(alloc: Global, node: &Node, held: &mut Held) -> Result<(), Sto
     ensures { IsRead (λ _. held.new) result (outcome held.old (constraint_unit node.now ∷ [])) }
 {
     match read_constraint(alloc, node, held) {
-        Ok(constraint) => {
-            held.add(constraint)?;
-            Ok(())
-        }
-        Err(FieldStop::Refused(kind)) => Err(Stop::Refused(Fault {
-            kind,
-            place: node.place,
-        })),
+        Ok(constraint) => match add_judged(constraint, held)? {
+            Some(kind) => Err(fault(kind, node.place)),
+            None => Ok(()),
+        },
+        Err(FieldStop::Refused(kind)) => Err(fault(kind, node.place)),
         Err(FieldStop::Memory) => Err(Stop::Memory),
     }
 }
@@ -160,7 +206,8 @@ fn read_first(alloc: Global, node: Node) -> Result<Held, Stop>
     ensures begun { IfOk result (λ h. h ≡ begun h.declared) }
 {
     let declarations = read_declarations(alloc, node)?;
-    Ok(Held::new(alloc, declarations))
+    let held = Held::new(alloc, declarations)?;
+    Ok(held)
 }
 
 // `variables`, which is the first child, and the sections behind it.

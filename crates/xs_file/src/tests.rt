@@ -4,12 +4,13 @@ use std::test::Fail;
 use xf_text::{Fault, Kind, Stop};
 use xs_model::{Constraint, Instance};
 
-// How many items all constraints have.
+// How many members the lists of all constraints have, an expression counting as one.
 fn items(instance: &Instance) -> usize {
     let mut count: usize = 0;
     for constraint in instance.constraints.as_slice() {
         match constraint {
             Constraint::AllDifferent { list } => count = count.saturating_add(list.len()),
+            Constraint::Intension { .. } => count = count.saturating_add(1),
         }
     }
     count
@@ -26,7 +27,13 @@ fn fault(alloc: Global, text: &[u8]) -> Option<Fault> {
 // Each text with the numbers of declarations, constraints and items.
 #[test]
 fn reads_instances(rt: HostRuntime) -> Result<(), Fail> {
-    let rows: [(&[u8], usize, usize, usize); 8] = [
+    let rows: [(&[u8], usize, usize, usize); 9] = [
+        (
+            b"<instance><variables><var id=\"x\"> 0..1 </var></variables><constraints><intension> eq(x,1) </intension><allDifferent> x </allDifferent><intension><function> x </function></intension></constraints></instance>",
+            1,
+            3,
+            3,
+        ),
         (b"<instance><variables/></instance>", 0, 0, 0),
         (
             b"<?xml version=\"1.0\"?>\n<!-- c --><instance format=\"XCSP3\" type=\"CSP\" class=\"c\" note=\"n\"> <variables> <var id=\"x\"> 0..1 </var> </variables> <constraints id=\"a\" class=\"b\" note=\"c\"> <allDifferent> x </allDifferent> <allDifferent/> </constraints> </instance> ",
@@ -148,7 +155,7 @@ fn refuses_roots(rt: HostRuntime) -> Result<(), Fail> {
 // Faults of sections and constraints.
 #[test]
 fn refuses_sections(rt: HostRuntime) -> Result<(), Fail> {
-    let rows: [(&[u8], Kind, u64); 14] = [
+    let rows: [(&[u8], Kind, u64); 22] = [
         (
             b"<instance><variables><var id=\"x\"> 0..1 </var></variables><constraints> x </constraints></instance>",
             Kind::Shape,
@@ -213,6 +220,46 @@ fn refuses_sections(rt: HostRuntime) -> Result<(), Fail> {
             b"<instance><variables><var id=\"x\"> 0 2..4194304 </var></variables><constraints><allDifferent/><allDifferent> x </allDifferent></constraints></instance>",
             Kind::Many,
             93,
+        ),
+        (
+            b"<instance><variables><var id=\"x\"> 0..1 </var></variables><constraints><intension> add(x,1) </intension></constraints></instance>",
+            Kind::Logic,
+            70,
+        ),
+        (
+            b"<instance><variables><var id=\"x\"> 0..1 </var></variables><constraints><intension> and(x,add(x,1)) </intension></constraints></instance>",
+            Kind::Logic,
+            70,
+        ),
+        (
+            b"<instance><variables><var id=\"x\"> 0..1 </var></variables><constraints><intension> eq(div(sub(x,1),2),0) </intension></constraints></instance>",
+            Kind::Division,
+            70,
+        ),
+        (
+            b"<instance><variables><var id=\"x\"> 0..1 </var></variables><constraints><intension> and(x,div(sub(x,1),2)) </intension></constraints></instance>",
+            Kind::Division,
+            70,
+        ),
+        (
+            b"<instance><variables><var id=\"x\"> 0..1 </var></variables><constraints><intension> eq(mul(x,85070591730234615865843651857942052863,2),0) </intension></constraints></instance>",
+            Kind::Range,
+            70,
+        ),
+        (
+            b"<instance><variables><var id=\"x\"> 0..1 </var></variables><constraints><intension> eq(x,85070591730234615865843651857942052863) </intension></constraints></instance>",
+            Kind::Range,
+            70,
+        ),
+        (
+            b"<instance><variables><var id=\"x\"> 0..1 </var></variables><constraints><intension> eq(x,y) </intension></constraints></instance>",
+            Kind::Name,
+            70,
+        ),
+        (
+            b"<instance><variables><var id=\"x\"> 0..1 </var></variables><constraints><intension> x </intension><intension> add(x,1) </intension></constraints></instance>",
+            Kind::Logic,
+            96,
         ),
         (
             b"<instance><variables><var id=\"x\"> 0 2..4194302 </var></variables><constraints><allDifferent> x x </allDifferent><allDifferent> x </allDifferent></constraints></instance>",

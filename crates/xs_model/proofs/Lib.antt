@@ -4,3 +4,4 @@ pub mod BracketLemmas
 pub mod NamesLemmas
 pub mod FindLemmas
 pub mod WordLemmas
+pub mod SpanLemmas

@@ -8,3 +8,9 @@ pub mod Outline
 pub mod Denotes
 pub mod Places
 pub mod Table
+pub mod Shape
+pub mod Bounds
+pub mod Formed
+pub mod Spans
+pub mod Magnitude
+pub mod Accepted

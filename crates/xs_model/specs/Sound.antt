@@ -1,15 +1,12 @@
--- When an instance is well formed, and when it keeps the limits on what is read.
-use Rattle.std.specs.Prelude.{◌≡◌, ◌≢◌, ℕ, ◌+◌, ◌*◌, ◌-◌, ◌^◌, ◌<◌, ◌≤◌, ℤ, pos, ◌≤ℤ◌, nat_abs, List, [], ◌∷◌, length, map, sum, AllPairs}
+-- When integers, domains and declarations are well formed, and what is counted of declarations.
+use Rattle.std.specs.Prelude.{◌≡◌, ℕ, ◌*◌, ◌-◌, ◌^◌, ◌<◌, ◌≤◌, ℤ, pos, ◌≤ℤ◌, nat_abs, List, [], ◌∷◌, length, map}
 use Rattle.std.specs.List.{AllByRecursion}
 use Rattle.xf_num.specs.Domain.{IsDomain, size_of}
 use Rattle.xf_num.specs.Span.{Bounds}
 use Rattle.xs_model.specs.declared.decl.Decl.{Decl}
 use Rattle.xs_model.specs.declared.decl.Decl.TheVariants.{One, Array}
-use Rattle.xs_model.specs.declared.instance.Constraint.{Constraint}
-use Rattle.xs_model.specs.declared.instance.Constraint.TheVariants.{AllDifferent}
-use Rattle.xs_model.specs.declared.instance.Instance.{Instance}
 use Rattle.xs_model.specs.Identifier.{IsIdentifier}
-use Rattle.xs_model.specs.Names.{places_of, words, domains, defined}
+use Rattle.xs_model.specs.Names.{places_of, defined}
 
 -- the greatest magnitude of an integer
 abbrev pub magnitudes : ℕ
@@ -48,16 +45,6 @@ name_of (Array name sizes cells) = name
 abbrev pub names_of : List Decl → List (List ℕ)
 names_of ds = map name_of ds
 
--- a constraint over variables below n, of the shape that its form asks
-abbrev pub IsSoundConstraint : ℕ → Constraint → Type 0
-IsSoundConstraint n (AllDifferent list) = AllByRecursion (λ v. v < n) list
-
-pub record IsSound (i : Instance) : Type 0 where
-  pub distinct : AllPairs (λ a b. a ≢ b) (names_of i.decls)
-  pub decls : AllByRecursion IsSoundDecl i.decls
-  pub few : length (words i.decls) < 2 ^ 32
-  pub constraints : AllByRecursion (IsSoundConstraint (length (words i.decls))) i.constraints
-
 -- how many variables and array cells a declaration has, undefined cells included
 abbrev pub cells_of : Decl → ℕ
 cells_of (One name domain) = 1
@@ -69,22 +56,8 @@ values_of [] = 0
 values_of (b ∷ []) = 0
 values_of (b ∷ c ∷ bs) = size_of (b ∷ c ∷ bs)
 
--- the items of a constraint: its list members after expansion, its other integers and variables
-abbrev pub items_of : Constraint → ℕ
-items_of (AllDifferent list) = length list
-
 abbrev pub most_cells : ℕ
 most_cells = 1048576
 
 abbrev pub most_items : ℕ
 most_items = 4194304
-
-abbrev pub most_constraints : ℕ
-most_constraints = 67108864
-
--- sound, and within the limits on what is read
-pub record IsAccepted (i : Instance) : Type 0 where
-  pub sound : IsSound i
-  pub cells : sum (map cells_of i.decls) ≤ most_cells
-  pub items : sum (map values_of (domains i.decls)) + sum (map items_of i.constraints) ≤ most_items
-  pub constraints : length i.constraints ≤ most_constraints

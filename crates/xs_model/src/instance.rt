@@ -1,4 +1,5 @@
 use crate::decl::Decls;
+use crate::expr::Expr;
 use xf_num::{Row, Vars};
 
 /// A constraint of one of the forms of XCSP3-core.
@@ -6,6 +7,8 @@ use xf_num::{Row, Vars};
 pub enum Constraint {
     /// The values of the list differ pairwise.
     AllDifferent { list: Vars },
+    /// The value of the expression is 1.
+    Intension { expr: Expr },
 }
 
 /// Constraints in order.

@@ -3,13 +3,17 @@
 //! It stands on `xf_num`, `xf_text` and `xf_problem`. Its definitions say what an instance means: the names and
 //! the domains of its variables (`specs/Names.antt`, `specs/Instance.antt`), the value of an expression
 //! (`specs/Value.antt`) and when a constraint holds (`specs/Instance.antt`). `problem_of` is the problem that
-//! the other crates cite.
+//! the other crates cite. They also say which expressions are well formed (`specs/Shape.antt`), what their bounds are
+//! (`specs/Bounds.antt`), how great the numbers of a constraint are (`specs/Magnitude.antt`), and which instances are
+//! sound and accepted (`specs/Accepted.antt`).
 #![tactic(auto)]
 
 mod brackets;
 mod decl;
 mod expr;
+mod hulls;
 mod instance;
+mod items;
 mod names;
 mod table;
 mod term;
@@ -17,7 +21,9 @@ mod words;
 
 pub use decl::{Cells, Decl, Decls};
 pub use expr::{Expr, Exprs, Op};
+pub use hulls::spans;
 pub use instance::{Constraint, Constraints, Instance};
+pub use items::count_items;
 pub use names::{NameStop, Names};
 pub use term::{Term, Terms};
 pub use words::word;

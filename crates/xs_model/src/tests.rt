@@ -4,6 +4,7 @@ ghost use Rattle.xs_model.specs.declared.decl.Decl.{Decl};
 
 use super::*;
 use std::alloc::Global;
+use std::test::Fail;
 use xf_num::{Domain, NoMemory, Row, Span, Text};
 
 fn text(alloc: Global, bytes: &[u8]) -> Result<Text, NoMemory>
@@ -143,4 +144,38 @@ fn writes_words(rt: HostRuntime) {
     assert!(rt; first.is_ok_and(|word| word.as_slice() == b"v".as_slice()));
     assert!(rt; second.is_ok_and(|word| word.as_slice() == b"x[0][0]".as_slice()));
     assert!(rt; last.is_ok_and(|word| word.as_slice() == b"x[1][1]".as_slice()));
+}
+
+#[test]
+fn spans_run_from_the_least_to_the_greatest_value(rt: HostRuntime) -> Result<(), Fail> {
+    let mut pieces = Row::new(rt.alloc());
+    for (lo, hi) in [(7, 7), (-3, -1), (2, 3)] {
+        if let Some(span) = Span::new(lo, hi) {
+            pieces.push(span)?;
+        }
+    }
+    let Ok(domain) = Domain::from_pieces(rt.alloc(), pieces.as_slice()) else {
+        panic!(rt; "no domain");
+    };
+    let mut decls = Row::new(rt.alloc());
+    decls.push(array(rt.alloc())?)?;
+    decls.push(Decl::One {
+        name: text(rt.alloc(), b"w")?,
+        domain,
+    })?;
+    let spans = spans(rt.alloc(), decls.as_slice())?;
+    let wanted: [(i128, i128); 4] = [(0, 1), (0, 1), (0, 1), (-3, 7)];
+    assert_eq!(rt; spans.len(), 4);
+    for (span, (lo, hi)) in spans.as_slice().iter().zip(wanted.iter()) {
+        assert_eq!(rt; (span.lo(), span.hi()), (*lo, *hi));
+    }
+    Ok(())
+}
+
+#[test]
+fn nodes_and_list_members_are_items(rt: HostRuntime) -> Result<(), Fail> {
+    let mut list = Row::new(rt.alloc());
+    list.extend(&[0, 0, 1])?;
+    assert_eq!(rt; count_items(&Constraint::AllDifferent { list }), 3);
+    Ok(())
 }

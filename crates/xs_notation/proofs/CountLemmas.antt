@@ -1,10 +1,12 @@
--- The words among the tokens of an expression are its nodes.
-use Rattle.std.proofs.Common.{◌≡◌, ℕ, ◌+◌, List, [], ◌∷◌, ◌++◌, codes, map, refl, sym, ap, subst, ◌∙◌, arith, rules, Bool, true, false, ◌&&◌, if◌then◌else◌}
+-- The words among the tokens that an expression is read from are its nodes.
+use Rattle.std.proofs.Common.{◌≡◌, ℕ, ◌+◌, List, [], ◌∷◌, ◌++◌, codes, map, refl, sym, ap, subst, ◌∙◌, arith, rules, Bool, true, false, ◌&&◌, if◌then◌else◌, Some}
 use Rattle.std.specs.List.{list_all}
+use Rattle.xs_model.specs.Formed.{total}
 use Rattle.xs_model.specs.declared.expr.Op.{Op}
 use Rattle.xs_expr.specs.Text.{name_of}
-use Rattle.xs_notation.specs.Count.{nodes_in, total, words_among, OneCount}
+use Rattle.xs_notation.specs.Count.{nodes_in, words_among}
 use Rattle.xs_notation.specs.Notation.{behind, listed, flat, is_plain, are_plain}
+use Rattle.xs_notation.specs.Parse.{parse}
 use Rattle.xs_notation.specs.declared.raw.Raw.{Raw, Word, Call, the_lemmas, roll-Raw, map-Raw, ind-Raw}
 use Rattle.xs_notation.specs.declared.raw.Raw.TheVariants.{rolls-Word, rolls-Call}
 use Rattle.xs_notation.specs.declared.raw.Raw.TheOpen.{Raw-F}
@@ -12,10 +14,10 @@ use Rattle.xs_notation.proofs.Again.{plain-name}
 use Rattle.xs_notation.proofs.Flats.{flat-Word, flat-Call, plain-Word, plain-Call}
 use Rattle.xs_notation.proofs.Written.{parse-spelt}
 
-nodes-Word : (w : List ℕ) → nodes_in (Word w) ≡ 1
+pub nodes-Word : (w : List ℕ) → nodes_in (Word w) ≡ 1
 nodes-Word w = search (rules, the_lemmas)
 
-nodes-Call : (op : Op) (rs : List Raw) → nodes_in (Call op rs) ≡ 1 + total (map nodes_in rs)
+pub nodes-Call : (op : Op) (rs : List Raw) → nodes_in (Call op rs) ≡ 1 + total (map nodes_in rs)
 nodes-Call op rs = search (rules, the_lemmas)
 
 both-left : (a b : Bool) → (a && b) ≡ true → a ≡ true
@@ -81,7 +83,7 @@ at-layer (Raw-F.Call op ps) = subst Claim (sym (rolls-Call op (kept ps))) (at-ca
 nodes-counted : (r : Raw) → Claim r
 nodes-counted = ind-Raw Claim (λ x y is. subst (λ z. Claim (roll-Raw z)) is (at-layer y))
 
-pub one-count : OneCount
-one-count ts r e =
+pub raw-counted : (ts : List (List ℕ)) (r : Raw) → parse ts ≡ Some r → nodes_in r ≡ words_among ts
+raw-counted ts r e =
     let spelt = parse-spelt ts r e in
     sym (nodes-counted r spelt.plain) ∙ ap words_among spelt.tokens

@@ -7,8 +7,12 @@ pub mod DepthLemmas
 pub mod MissedLemmas
 pub mod WordsLemmas
 pub mod ShapeLemmas
+pub mod EachWord
 pub mod WithinLemmas
+pub mod SmallLemmas
+pub mod FormedLemmas
 pub mod CountLemmas
+pub mod NodeLemmas
 pub mod Decimals
 pub mod Marked
 pub mod Places
@@ -17,3 +21,4 @@ pub mod Reached
 pub mod Declared
 pub mod ReadBack
 pub mod WrittenAgain
+pub mod AskedLemmas

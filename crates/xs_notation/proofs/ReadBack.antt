@@ -5,8 +5,9 @@ use Rattle.std.specs.List.{flat_map, list_all}
 use Rattle.std.proofs.lemmas.List.Elements.{All-head, All-tail}
 use Rattle.std.proofs.lemmas.List.Folds.{list_all-append}
 use borrow.Author.Tests.{le-leb}
-use Rattle.xs_expr.specs.Bounds.{HasVariable, HasVariables}
-use Rattle.xs_expr.specs.Shape.{HasShape, IsCount, ArePlaced, IsShaped, is_set, is_set_layer}
+use Rattle.xs_model.specs.Bounds.{HasVariable, HasVariables}
+use Rattle.xs_model.specs.Formed.{HasSmallInteger, HasSmallIntegers}
+use Rattle.xs_model.specs.Shape.{HasShape, IsCount, ArePlaced, IsShaped, is_set, is_set_layer}
 use Rattle.xs_expr.specs.Shaped.{is_count, is_exponent, is_exponent_layer, are_no_sets as are_no_set_exprs, are_placed as are_placed_exprs}
 use Rattle.xs_expr.specs.Text.{joined_from, name_of, written}
 use Rattle.xs_expr.specs.Tokens.{is_in_word, tokens_of}
@@ -25,7 +26,6 @@ use Rattle.xs_model.specs.declared.expr.Expr.{Expr, Int, Var, Node, roll-Expr, m
 use Rattle.xs_model.specs.declared.expr.Expr.TheVariants.{rolls-Int, rolls-Var, rolls-Node}
 use Rattle.xs_model.specs.declared.expr.Expr.TheOpen.{Expr-F}
 use Rattle.xs_notation.specs.Forms.{Form, form, are_formed, are_no_sets, are_placed}
-use Rattle.xs_notation.specs.Law.{HasSmallInteger, HasSmallIntegers}
 use Rattle.xs_notation.specs.Notation.{flat, behind, listed, are_plain}
 use Rattle.xs_notation.specs.Reading.{expr_of, words_in, words_meet}
 use Rattle.xs_notation.specs.Terms.{settled, term_by, term_in, term_meets, term_meets_by, term_of}

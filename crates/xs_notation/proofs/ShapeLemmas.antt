@@ -2,7 +2,7 @@
 use Rattle.std.proofs.Common.{◌≡◌, ℕ, suc, ℤ, pos, negsuc, int_le, List, [], ◌∷◌, map, length, refl, sym, ap, subst, ◌∙◌, arith, rules, Bool, true, false, not, ◌&&◌, cond, Option, Some, None, All}
 use Rattle.std.proofs.lemmas.Grind.{common_steps}
 use Rattle.std.proofs.lemmas.List.Elements.{All-nil, All-cons}
-use Rattle.xs_expr.specs.Shape.{IsCount, IsShaped, is_set, is_set_layer}
+use Rattle.xs_model.specs.Shape.{IsCount, IsShaped, is_set, is_set_layer}
 use Rattle.xs_expr.specs.Shaped.{is_count, is_exponent, is_exponent_layer, are_no_sets as are_no_set_exprs, are_placed as are_placed_exprs}
 use Rattle.xs_expr.specs.Words.{is_exponent_value}
 use Rattle.xs_expr.proofs.Shapes.{count-is, placed-are, shaped-Int, shaped-Var, shaped-node}
@@ -211,9 +211,22 @@ later os r =
     let t : Condition → Bool = tree_meets os r in
     cond (not (t Condition.Magnitude)) (Some Condition.Magnitude) (cond (not (t Condition.Naming)) (Some Condition.Naming) (cond (not (t Condition.Counting)) (Some Condition.Counting) (cond (not (t Condition.Fitting)) (Some Condition.Fitting) None)))
 
+-- what misses nothing is an expression by its form
+is-expression : (os : List Outline) (r : Raw) → first_missed (tree_meets os r) ≡ None → is_expression (form r) ≡ true
+is-expression os r h =
+    let t : Condition → Bool = tree_meets os r in
+    both-left (is_expression (form r)) (words_meet os r Spelling) (spelt (t Known) (t Nesting) (t Spelling) (later os r) h)
+
+not-is : (a : Bool) → not a ≡ true → a ≡ false
+not-is true h = cc
+not-is false h = refl
+
 pub shaped-expr : (os : List Outline) (r : Raw) → first_missed (tree_meets os r) ≡ None → IsShaped (expr_of os r)
 shaped-expr os r h =
-    let t : Condition → Bool = tree_meets os r in
     let f : Form = form r in
-    let spelling = spelt (t Known) (t Nesting) (t Spelling) (later os r) h in
-    (agrees os r).shaped (both-left f.is_formed (not f.is_set) (both-left (is_expression f) (words_meet os r Spelling) spelling))
+    (agrees os r).shaped (both-left f.is_formed (not f.is_set) (is-expression os r h))
+
+pub no-set-expr : (os : List Outline) (r : Raw) → first_missed (tree_meets os r) ≡ None → is_set (expr_of os r) ≡ false
+no-set-expr os r h =
+    let f : Form = form r in
+    (agrees os r).set ∙ not-is f.is_set (both-right f.is_formed (not f.is_set) (is-expression os r h))

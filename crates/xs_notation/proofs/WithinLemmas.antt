@@ -1,8 +1,8 @@
 -- The variables of an expression that is read are declared.
-use Rattle.std.proofs.Common.{◌≡◌, ℕ, zero, suc, ◌+◌, ◌<◌, ℤ, pos, List, [], ◌∷◌, map, get_or, refl, sym, ap, subst, ◌∙◌, arith, rules, Bool, true, false, if◌then◌else◌, Option, Some, None, Result, Err}
+use Rattle.std.proofs.Common.{◌≡◌, ℕ, zero, suc, ◌+◌, ◌<◌, ℤ, pos, List, [], ◌∷◌, get_or, refl, subst, arith, Bool, true, false, if◌then◌else◌, Option, Some, None, Result, Err}
 use Rattle.std.specs.List.{filter_map}
 use Rattle.std.specs.Prelude.{slice_index_or}
-use Rattle.xs_expr.specs.Bounds.{HasVariable, HasVariables}
+use Rattle.xs_model.specs.Bounds.{HasVariable, HasVariables}
 use Rattle.xs_fields.specs.Cells.{are_inside, covered_places, declared_at, reached_at, unless_none, variables_at, variables_in as reached_in, variables_of}
 use Rattle.xs_fields.specs.Conditions.{first_missed}
 use Rattle.xs_fields.specs.Integers.{integer_of}
@@ -11,15 +11,13 @@ use Rattle.xs_fields.specs.declared.condition.Condition.{Condition}
 use Rattle.xs_fields.specs.declared.condition.Condition.TheVariants.{Naming}
 use Rattle.xs_fields.specs.declared.variable.Word.{Word as VariableWord}
 use Rattle.xs_model.specs.Outline.{Outline, cell_numbers, defined_count, number_cells, numbers_from, sizes_at, variables_in}
-use Rattle.xs_model.specs.declared.expr.Op.{Op}
-use Rattle.xs_model.specs.declared.expr.Expr.{Expr, Int, Var, Node, every_made-Expr}
-use Rattle.xs_model.specs.declared.expr.Expr.TheVariants.{rolls-Int, rolls-Var, rolls-Node}
+use Rattle.xs_model.specs.declared.expr.Expr.{Int, Var, every_made-Expr}
+use Rattle.xs_model.specs.declared.expr.Expr.TheVariants.{rolls-Int, rolls-Var}
 use Rattle.xs_model.specs.declared.expr.Expr.TheOpen.{Expr-F}
 use Rattle.xs_notation.specs.Reading.{expr_of}
-use Rattle.xs_notation.specs.Terms.{settled, term_by, term_in, term_meets_by, term_of, variable_in}
-use Rattle.xs_notation.specs.declared.raw.Raw.{Raw, Word, Call, the_lemmas, roll-Raw, map-Raw, ind-Raw}
-use Rattle.xs_notation.specs.declared.raw.Raw.TheVariants.{rolls-Word, rolls-Call}
-use Rattle.xs_notation.specs.declared.raw.Raw.TheOpen.{Raw-F}
+use Rattle.xs_notation.specs.Terms.{settled, term_by, term_in, term_meets_by, variable_in}
+use Rattle.xs_notation.specs.declared.raw.Raw.{Raw}
+use Rattle.xs_notation.proofs.EachWord.{each-word}
 
 -- each number is below n
 abbrev AreBelow : ℕ → List ℕ → Type 0
@@ -80,35 +78,5 @@ within-term os w (Some k) i = within-Int (variables_in os) (pos 0)
 within-term os w None (Some z) = within-Int (variables_in os) z
 within-term os w None None = within-in (variables_in os) (variables_of os w) (reached-below os (word_of w) (declared_at os (word_of w).name))
 
-expr-Word : (os : List Outline) (w : List ℕ) → expr_of os (Word w) ≡ term_of os w
-expr-Word os w = search (rules, the_lemmas)
-
-expr-Call : (os : List Outline) (op : Op) (rs : List Raw) → expr_of os (Call op rs) ≡ Node op (map (expr_of os) rs)
-expr-Call os op rs = search (rules, the_lemmas)
-
-module _ (os : List Outline) where
-  abbrev Claim : Raw → Type 0
-  Claim r = HasVariables (variables_in os) (expr_of os r)
-
-  abbrev kept : List ((r : Raw) × Claim r) → List Raw
-  kept ps = map (λ p. p.0) ps
-
-  abbrev built : List ((r : Raw) × Claim r) → List ((e : Expr) × HasVariables (variables_in os) e)
-  built ps = map (λ p. (expr_of os p.0, p.1)) ps
-
-  same : (ps : List ((r : Raw) × Claim r)) → map (λ (e : (e : Expr) × HasVariables (variables_in os) e). e.0) (built ps) ≡ map (expr_of os) (kept ps)
-  same [] = refl
-  same (p ∷ ps) = ap (λ es. expr_of os p.0 ∷ es) (same ps)
-
-  at-call : (op : Op) (ps : List ((r : Raw) × Claim r)) → Claim (Call op (kept ps))
-  at-call op ps =
-      let es : List Expr = map (expr_of os) (kept ps) in
-      subst (HasVariables (variables_in os)) (rolls-Node op es ∙ sym (expr-Call os op (kept ps)))
-      (every_made-Expr (HasVariable (variables_in os)) (Expr-F.Node op es) (Expr-F.Node op (built ps)) (ap (Expr-F.Node op) (same ps)) tt)
-
-  at-layer : (y : Raw-F ((r : Raw) × Claim r)) → Claim (roll-Raw (map-Raw ((r : Raw) × Claim r) Raw (λ p. p.0) y))
-  at-layer (Raw-F.Word w) = subst Claim (sym (rolls-Word w)) (subst (HasVariables (variables_in os)) (sym (expr-Word os w)) (within-term os w (first_missed (term_meets_by os w (integer_of w))) (integer_of w)))
-  at-layer (Raw-F.Call op ps) = subst Claim (sym (rolls-Call op (kept ps))) (at-call op ps)
-
-  pub within-expr : (r : Raw) → Claim r
-  within-expr = ind-Raw Claim (λ x y is. subst (λ z. Claim (roll-Raw z)) is (at-layer y))
+pub within-expr : (os : List Outline) (r : Raw) → HasVariables (variables_in os) (expr_of os r)
+within-expr os = each-word (HasVariable (variables_in os)) (λ op es. tt) os (λ w. within-term os w (first_missed (term_meets_by os w (integer_of w))) (integer_of w))

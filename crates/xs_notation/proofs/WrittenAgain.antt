@@ -8,13 +8,14 @@ use Rattle.xs_expr.specs.Tokens.{tokens_of}
 use Rattle.xs_fields.specs.Conditions.{answer_on}
 use Rattle.xs_fields.specs.declared.condition.Condition.{Condition}
 use Rattle.xs_fields.specs.declared.condition.Condition.TheVariants.{Known, Nesting, Spelling, Magnitude, Naming, Counting, Fitting}
+use Rattle.xs_model.specs.Formed.{IsFormedExpr}
 use Rattle.xs_model.specs.Names.{words}
 use Rattle.xs_model.specs.Outline.{Outline, outlines_of}
 use Rattle.xs_model.specs.Sound.{cells_of}
 use Rattle.xs_model.specs.declared.decl.Decl.{Decl}
 use Rattle.xs_model.specs.declared.expr.Expr.{Expr}
 use Rattle.xs_notation.specs.Forms.{form, form_meets}
-use Rattle.xs_notation.specs.Law.{AreDeclared, IsReadAgain, IsWritable, WrittenAgain}
+use Rattle.xs_notation.specs.Law.{AreDeclared, IsReadAgain, WrittenAgain}
 use Rattle.xs_notation.specs.Nesting.{is_deeper, nesting_meets}
 use Rattle.xs_notation.specs.Notation.{flat}
 use Rattle.xs_notation.specs.Parse.{parse}
@@ -41,7 +42,7 @@ form-met r f s Naming = refl
 form-met r f s Counting = refl
 form-met r f s Fitting = refl
 
-pub read-back : (ds : List Decl) (e : Expr) → AreDeclared ds → IsWritable ds e → IsReadAgain ds e
+pub read-back : (ds : List Decl) (e : Expr) → AreDeclared ds → IsFormedExpr (length (words ds)) e → IsReadAgain ds e
 read-back ds e d w =
     let os : List Outline = outlines_of ds in
     let b = back os (words ds) (direct ds d) e w.shaped w.variables w.small in

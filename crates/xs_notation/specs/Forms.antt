@@ -1,7 +1,7 @@
 -- Which operands an operator takes (XCSP3-core, the operands of the operators of expressions), before words are read.
 use Rattle.std.specs.Prelude.{List, [], ◌∷◌, length, Bool, true, false, ◌&&◌, not}
 use Rattle.std.specs.List.{list_all}
-use Rattle.xs_expr.specs.Shape.{is_set_operator}
+use Rattle.xs_model.specs.Shape.{is_set_operator}
 use Rattle.xs_expr.specs.Shaped.{is_count}
 use Rattle.xs_expr.specs.Words.{is_exponent_word}
 use Rattle.xs_fields.specs.declared.condition.Condition.{Condition}

@@ -1,19 +1,18 @@
 -- The notation is read in one way, and what is written in it is read again.
-use Rattle.std.specs.Prelude.{◌≡◌, ◌≢◌, ℕ, ◌<◌, ◌^◌, List, length, Some, Ok, true, false, ⊤, AllPairs}
+use Rattle.std.specs.Prelude.{◌≡◌, ◌≢◌, ℕ, ◌<◌, ◌^◌, List, length, Some, Ok, true, false, AllPairs}
 use Rattle.std.specs.List.{AllByRecursion}
-use Rattle.xs_expr.specs.Bounds.{HasVariables}
-use Rattle.xs_expr.specs.Shape.{IsShaped, is_set}
+use Rattle.xs_model.specs.Formed.{IsFormedExpr}
 use Rattle.xs_expr.specs.Text.{written}
 use Rattle.xs_expr.specs.Tokens.{tokens_of}
 use Rattle.xs_fields.specs.Conditions.{answer}
 use Rattle.xs_fields.specs.declared.condition.Condition.{Condition}
 use Rattle.xs_model.specs.Names.{words}
 use Rattle.xs_model.specs.Outline.{outlines_of}
-use Rattle.xs_model.specs.Sound.{IsAccepted, IsSmall, IsSoundDecl, cells_of, names_of}
+use Rattle.xs_model.specs.Accepted.{IsAccepted}
+use Rattle.xs_model.specs.Sound.{IsSoundDecl, cells_of, names_of}
 use Rattle.xs_model.specs.declared.decl.Decl.{Decl}
 use Rattle.xs_model.specs.declared.instance.Instance.{Instance}
-use Rattle.xs_model.specs.declared.expr.Expr.{Expr, every-Expr}
-use Rattle.xs_model.specs.declared.expr.Expr.TheOpen.{Expr-F}
+use Rattle.xs_model.specs.declared.expr.Expr.{Expr}
 use Rattle.xs_notation.specs.declared.raw.Raw.{Raw}
 use Rattle.xs_notation.specs.Notation.{flat, are_plain}
 use Rattle.xs_notation.specs.Nesting.{is_deeper}
@@ -27,28 +26,11 @@ pub record OneNotation : Type 0 where
   pub plain : (ts : List (List ℕ)) (r : Raw) → parse ts ≡ Some r → are_plain r ≡ true
   pub again : (r : Raw) → are_plain r ≡ true → parse (flat r) ≡ Some r
 
--- an integer is at most the greatest magnitude
-abbrev pub HasSmallInteger : Expr-F Expr → Type 0
-HasSmallInteger (Expr-F.Int z) = IsSmall z
-HasSmallInteger (Expr-F.Var v) = ⊤
-HasSmallInteger (Expr-F.Node op es) = ⊤
-
--- each integer of an expression is so
-abbrev pub HasSmallIntegers : Expr → Type 0
-HasSmallIntegers = every-Expr HasSmallInteger
-
 -- declarations as those of a sound instance: sound, of different names, with cells that machine numbers count
 pub record AreDeclared (ds : List Decl) : Type 0 where
   pub distinct : AllPairs (λ a b. a ≢ b) (names_of ds)
   pub decls : AllByRecursion IsSoundDecl ds
   pub few : AllByRecursion (λ d. cells_of d < 2 ^ 64) ds
-
--- an expression that is to be written: it is well formed and no set, and its variables are declared
-pub record IsWritable (ds : List Decl) (e : Expr) : Type 0 where
-  pub shaped : IsShaped e
-  pub no_set : is_set e ≡ false
-  pub variables : HasVariables (length (words ds)) e
-  pub small : HasSmallIntegers e
 
 -- the text of an expression spells an expression that misses no condition on it, and that is the same when its words
 -- are read
@@ -62,5 +44,5 @@ pub record IsReadAgain (ds : List Decl) (e : Expr) : Type 0 where
 -- here; where the text keeps it too, the text is answered with the expression
 pub record WrittenAgain : Type 0 where
   pub accepted : (i : Instance) → IsAccepted i → AreDeclared i.decls
-  pub read : (ds : List Decl) (e : Expr) → AreDeclared ds → IsWritable ds e → IsReadAgain ds e
-  pub answered : (ds : List Decl) (e : Expr) → AreDeclared ds → IsWritable ds e → is_deeper 0 (written (words ds) e) ≡ false → answer (expr_meets (outlines_of ds) (written (words ds) e)) (expr_at (outlines_of ds) (written (words ds) e)) ≡ Ok e
+  pub read : (ds : List Decl) (e : Expr) → AreDeclared ds → IsFormedExpr (length (words ds)) e → IsReadAgain ds e
+  pub answered : (ds : List Decl) (e : Expr) → AreDeclared ds → IsFormedExpr (length (words ds)) e → is_deeper 0 (written (words ds) e) ≡ false → answer (expr_meets (outlines_of ds) (written (words ds) e)) (expr_at (outlines_of ds) (written (words ds) e)) ≡ Ok e

@@ -33,7 +33,8 @@ pub fn count_nodes(text: &[u8], left: u64) -> Option<u64>
     Some(count)
 }
 
-/// The law of the count: an expression has as many nodes as there are words among the tokens that it is read from.
+/// The law of the count: an expression has as many nodes as there are words among the tokens that it is read from, and
+/// the expression with each word read has as many. So what `count_nodes` counts are the nodes of what `read_expr` reads.
 pub fn one_count()
     ensures { OneCount }
 {}

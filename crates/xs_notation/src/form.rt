@@ -1,5 +1,5 @@
 ghost use Rattle.std.specs.Prelude.{◌≡◌, map};
-ghost use Rattle.xs_expr.specs.Shape.{is_set_operator};
+ghost use Rattle.xs_model.specs.Shape.{is_set_operator};
 ghost use Rattle.xs_expr.specs.Shaped.{is_count};
 ghost use Rattle.xs_fields.specs.Conditions.{first_missed};
 ghost use Rattle.xs_notation.specs.Forms.{are_formed, are_no_sets, are_placed, form, form_meets, is_expression, is_membership, is_power};

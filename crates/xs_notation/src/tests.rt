@@ -333,11 +333,13 @@ fn depths(rt: HostRuntime) -> Result<(), Fail> {
 
 #[test]
 fn nodes(rt: HostRuntime) {
-    let cases: [(&[u8], u64); 4] = [
+    let cases: [(&[u8], u64); 6] = [
         (b" 7 ", 1),
         (b"neg(x)", 2),
         (b"add(x,1,mul(x,y))", 6),
         (b"in(x,set(1,2))", 5),
+        (b"in ( x , set ( ) )", 3),
+        (b"if(le(x,-2),pow(x,2),x[0][0])", 8),
     ];
     for (text, want) in cases {
         assert_eq!(rt; count_nodes(text, want), Some(want));

@@ -1,6 +1,5 @@
 ghost use Rattle.std.specs.Prelude.{◌≡◌, IfOk};
-ghost use Rattle.xs_expr.specs.Bounds.{HasVariables};
-ghost use Rattle.xs_expr.specs.Shape.{IsShaped};
+ghost use Rattle.xs_model.specs.Formed.{IsFormedExpr};
 ghost use Rattle.xs_fields.specs.Conditions.{answer, first_missed, IsOrMemory};
 ghost use Rattle.xs_model.specs.Outline.{variables_in};
 ghost use Rattle.xs_notation.specs.Reading.{expr_at, expr_meets, expr_of, tree_meets};
@@ -46,8 +45,7 @@ pub fn judge_notation(
 
 fn read_tree(alloc: Global, raw: &Raw, names: &Names) -> Result<Expr, FieldStop>
     ensures value { IsOrMemory result (answer (tree_meets names.now raw.now) (expr_of names.now raw.now)) }
-    ensures shaped { IfOk result IsShaped }
-    ensures within { IfOk result (HasVariables (variables_in names.now)) }
+    ensures formed { IfOk result (IsFormedExpr (variables_in names.now)) }
 {
     let missed = judge_tree(alloc, raw, names)?;
     match missed {
@@ -61,12 +59,11 @@ fn read_tree(alloc: Global, raw: &Raw, names: &Names) -> Result<Expr, FieldStop>
 ///
 /// More than 200 `(` open at once are F7; a text that is spelt otherwise, an operator with other operands than it takes,
 /// and an exponent of `pow` that is no integer from 1 to 64 are F4; a magnitude above 2^126 - 1 is F10; a word that
-/// denotes no variable is F5: the first of these over the whole text. The expression is well formed, and its variables
-/// are declared.
+/// denotes no variable is F5: the first of these over the whole text. The expression is well formed and no set, its
+/// variables are declared, and its integers are at most 2^126 - 1.
 pub fn read_expr(alloc: Global, text: &[u8], names: &Names) -> Result<Expr, FieldStop>
     ensures value { IsOrMemory result (answer (expr_meets names.now text.now) (expr_at names.now text.now)) }
-    ensures shaped { IfOk result IsShaped }
-    ensures within { IfOk result (HasVariables (variables_in names.now)) }
+    ensures formed { IfOk result (IsFormedExpr (variables_in names.now)) }
 {
     if let Some(missed) = judge_nesting(text) {
         return Err(FieldStop::Refused(missed.kind()));

@@ -1,8 +1,7 @@
 -- The variables that a text denotes are declared.
-use Rattle.std.proofs.Common.{◌≡◌, ℕ, zero, suc, ◌+◌, ◌<◌, ◌≤◌, Bool, true, false, if◌then◌else◌, List, [], ◌∷◌, ◌++◌, Option, None, Some, IfSome, Result, Ok, Err, get_or, arith}
+use Rattle.std.proofs.Common.{◌≡◌, ℕ, zero, suc, ◌+◌, ◌<◌, ◌≤◌, Bool, true, false, if◌then◌else◌, List, [], ◌∷◌, ◌++◌, Option, None, Some, IfSome, Result, Err, get_or, arith}
 use Rattle.std.specs.List.{AllByRecursion, filter_map, cons_option, flat_map}
 use Rattle.xs_fields.specs.Cells.{are_inside, covered_places, declared_at, reached_at, unless_none, variables_at, variables_in as variables_told, variables_of, vars_of}
-use Rattle.xs_fields.specs.Conditions.{IsOrMemory, answer_on}
 use Rattle.xs_fields.specs.Variables.{is_direct, word_of}
 use Rattle.xs_fields.specs.Words.{words_of}
 use Rattle.xs_fields.specs.declared.condition.Condition.{Condition}
@@ -66,8 +65,3 @@ words_below os (w ∷ ws) = all_append (λ v. v < variables_in os) (variables_of
 
 pub vars_below : (os : List Outline) (text : List ℕ) → AllByRecursion (λ v. v < variables_in os) (vars_of os text)
 vars_below os text = words_below os (words_of text)
-
--- an answer without a missed condition is its value
-pub told_value : {A : Type 0} (x value : A) (missed : Option Condition) → IsOrMemory (Ok x) (answer_on missed value) → x ≡ value
-told_value x value None h = cc
-told_value x value (Some k) h = cc

@@ -1,2 +1,3 @@
-mod BelowLemmas
+pub mod BelowLemmas
 pub mod MissedLemmas
+pub mod ExpressionLemmas

@@ -2,13 +2,13 @@ ghost use Rattle.std.specs.Prelude.{◌≡◌, ◌∷◌, [], pos, codes, true, 
 ghost use Rattle.xs_model.specs.Outline.{outline_of};
 ghost use Rattle.xs_model.specs.declared.decl.Decl.{Decl};
 
-use crate::{next_child, read_different};
+use crate::{next_child, read_different, read_intension};
 use std::alloc::Global;
 use std::test::Fail;
 use xf_markup::read_tree;
 use xf_num::{Domain, NoMemory, Row, Span, Text};
 use xf_text::{FieldStop, Kind};
-use xs_model::{Cells, Constraint, Decl, NameStop, Names};
+use xs_model::{Cells, Constraint, Decl, Expr, NameStop, Names, Op};
 
 fn text(alloc: Global, bytes: &[u8]) -> Result<Text, NoMemory>
     ensures { IfOk result (λ text. text ≡ bytes.now) }
@@ -74,6 +74,9 @@ fn names(alloc: Global) -> Result<Names, NameStop>
 // What the one element of a text is read as, where so many items may still come.
 fn read(alloc: Global, text: &[u8], names: &Names, left: u64) -> Result<Constraint, FieldStop> {
     match read_tree(alloc, text) {
+        Ok(node) if node.name.as_slice() == b"intension".as_slice() => {
+            read_intension(alloc, &node, names, left)
+        }
         Ok(node) => read_different(alloc, &node, names, left),
         Err(_) => Err(FieldStop::Refused(Kind::Syntax)),
     }
@@ -103,7 +106,137 @@ fn reads_lists(rt: HostRuntime) -> Result<(), Fail> {
     for (text, want) in rows {
         match read(rt.alloc(), text, &names, 3) {
             Ok(Constraint::AllDifferent { list }) => assert!(rt; list.as_slice() == want),
-            Err(_) => panic!(rt; "not read"),
+            _ => panic!(rt; "not read"),
+        }
+    }
+    Ok(())
+}
+
+#[test]
+fn reads_expressions(rt: HostRuntime) -> Result<(), Fail> {
+    let Ok(names) = names(rt.alloc()) else {
+        panic!(rt; "want of memory");
+    };
+    let rows: [&[u8]; 4] = [
+        b"<intension> ne(v,x[0][1]) </intension>",
+        b"<intension id=\"a\" class=\"b\" note=\"c\"><function class=\"d\"> ne( v , x[0][1] ) </function></intension>",
+        b"<intension>ne(v,<!-- c -->x[0][+1])</intension>",
+        b"<intension> <function>ne(v,x[0][1])</function> </intension>",
+    ];
+    for text in rows {
+        let Ok(
+            Constraint::Intension {
+                expr: Expr::Node(op, operands),
+            },
+        ) = read(rt.alloc(), text, &names, 3)
+        else {
+            panic!(rt; "not read");
+        };
+        assert_eq!(rt; op, Op::Ne);
+        assert!(rt; matches!(operands.as_slice(), [Expr::Var(0), Expr::Var(2)]));
+    }
+    Ok(())
+}
+
+#[test]
+fn refuses_expressions_by_the_first_condition(rt: HostRuntime) -> Result<(), Fail> {
+    let Ok(names) = names(rt.alloc()) else {
+        panic!(rt; "want of memory");
+    };
+    let rows: [(&[u8], Kind); 14] = [
+        (b"<intension rank=\"any\"> v </intension>", Kind::Unknown),
+        (b"<intension><list> v </list></intension>", Kind::Unknown),
+        (
+            b"<intension><function> v <function/></function></intension>",
+            Kind::Unknown,
+        ),
+        (
+            b"<intension><function id=\"f\"> v </function></intension>",
+            Kind::Unknown,
+        ),
+        (b"<intension> </intension>", Kind::Shape),
+        (
+            b"<intension><function> v </function><function> v </function></intension>",
+            Kind::Shape,
+        ),
+        (
+            b"<intension> v <function> v </function></intension>",
+            Kind::Shape,
+        ),
+        (b"<intension> ne(v) </intension>", Kind::Shape),
+        (b"<intension> ne(w,x[) </intension>", Kind::Shape),
+        (b"<intension> set(v,v) </intension>", Kind::Shape),
+        (
+            b"<intension> ne(w,85070591730234615865843651857942052864) </intension>",
+            Kind::Range,
+        ),
+        (b"<intension> ne(w,add(v,v,v)) </intension>", Kind::Name),
+        (b"<intension> ne(v,add(v,v)) </intension>", Kind::Many),
+        (
+            b"<intension> <function> ne(v,neg(v)) </function> </intension>",
+            Kind::Many,
+        ),
+    ];
+    for (text, want) in rows {
+        match read(rt.alloc(), text, &names, 3) {
+            Err(FieldStop::Refused(kind)) => assert_eq!(rt; kind, want),
+            _ => panic!(rt; "not refused"),
+        }
+    }
+    Ok(())
+}
+
+// An element of this name with an open and a close tag, and so many `(` in it before and behind the other bytes.
+fn nested(alloc: Global, open: &[u8], count: usize, close: &[u8]) -> Result<Text, NoMemory> {
+    let mut text = Row::new(alloc);
+    text.extend(open)?;
+    for _ in 0..count {
+        text.extend(b"(")?;
+    }
+    text.extend(close)?;
+    Ok(text)
+}
+
+#[test]
+fn asks_how_deep_texts_are_nested(rt: HostRuntime) -> Result<(), Fail> {
+    let Ok(names) = names(rt.alloc()) else {
+        panic!(rt; "want of memory");
+    };
+    let rows: [(&[u8], usize, &[u8], Kind); 8] = [
+        (b"<intension>", 200, b"</intension>", Kind::Shape),
+        (b"<intension>", 201, b"</intension>", Kind::Depth),
+        (
+            b"<intension><function>",
+            201,
+            b"</function></intension>",
+            Kind::Depth,
+        ),
+        (
+            b"<intension> v <function>",
+            201,
+            b"</function></intension>",
+            Kind::Depth,
+        ),
+        (
+            b"<intension rank=\"any\">",
+            201,
+            b"</intension>",
+            Kind::Unknown,
+        ),
+        (b"<allDifferent> v ", 200, b" </allDifferent>", Kind::Shape),
+        (b"<allDifferent> v ", 201, b" </allDifferent>", Kind::Depth),
+        (
+            b"<allDifferent><list/><list>",
+            201,
+            b"</list></allDifferent>",
+            Kind::Shape,
+        ),
+    ];
+    for (open, count, close, want) in rows {
+        let text = nested(rt.alloc(), open, count, close)?;
+        match read(rt.alloc(), text.as_slice(), &names, 9) {
+            Err(FieldStop::Refused(kind)) => assert_eq!(rt; kind, want),
+            _ => panic!(rt; "not refused"),
         }
     }
     Ok(())

@@ -7,7 +7,7 @@ use Rattle.xs_model.specs.declared.decl.Decl.{Decl}
 use Rattle.xs_model.specs.declared.decl.Decl.TheVariants.{One}
 use Rattle.xs_model.specs.Sound.{names_of, values_of}
 use Rattle.xs_var.specs.Elements.{text_in, value_in}
-use Rattle.xs_var.specs.Units.{UnitOf}
+use Rattle.xs_var.specs.Units.{UnitOf, unjudged}
 use Rattle.xs_var.specs.VarDomain.{counts_meet, var_domain}
 use Rattle.xs_var.specs.Variable.{names_meet, var_fields_meet}
 
@@ -32,7 +32,7 @@ with_one s (Some name) None = s
 with_one s (Some name) (Some d) = record { decls = s.decls ++ One name d ∷ []; cells = s.cells + 1; values = s.values + values_of d }
 
 abbrev pub var_unit : Node → UnitOf Declared
-var_unit n = record { place = n.place; meets = λ s. var_meets s n; behind = λ s. with_one s (value_in (codes "id") n.attrs) (domain_for s.decls n) }
+var_unit n = record { place = n.place; meets = λ s. var_meets s n; judged = unjudged; behind = λ s. with_one s (value_in (codes "id") n.attrs) (domain_for s.decls n) }
 
 -- the declaration of a variable of this name
 abbrev pub one_decl : Option (List ℕ) → List Bounds → Option Decl

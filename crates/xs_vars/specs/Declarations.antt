@@ -11,7 +11,7 @@ use Rattle.xs_model.specs.Names.{domains}
 use Rattle.xs_model.specs.Sound.{IsSoundDecl, cells_of, most_cells, most_items, names_of, values_of}
 use Rattle.xs_var.specs.Container.{variables_meet}
 use Rattle.xs_var.specs.Elements.{children_of}
-use Rattle.xs_var.specs.Units.{UnitOf, outcome}
+use Rattle.xs_var.specs.Units.{UnitOf, outcome, unjudged}
 use Rattle.xs_var.specs.VarUnit.{Declared, var_unit}
 use Rattle.xs_vars.specs.declared.declarations.Declarations.{Declarations}
 
@@ -21,7 +21,7 @@ child_unit n = if bytes_eq n.name (codes "var") then var_unit n else array_unit 
 
 -- `variables` itself declares nothing
 abbrev pub variables_unit : Node → UnitOf Declared
-variables_unit n = record { place = n.place; meets = λ s. variables_meet n; behind = λ s. s }
+variables_unit n = record { place = n.place; meets = λ s. variables_meet n; judged = unjudged; behind = λ s. s }
 
 -- the units of `variables`, in document order
 abbrev pub units_of : Node → List (UnitOf Declared)

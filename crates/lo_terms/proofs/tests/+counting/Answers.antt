@@ -1,5 +1,5 @@
-use Rattle.std.proofs.Common.{◌≡◌, ◌+◌, ap, sym, ◌∙◌, arith, rules}
-use Rattle.lo_terms.specs.Lowering.{nodes_of}
+use Rattle.std.proofs.Common.{ap, sym, arith, rules}
+use Rattle.xs_model.specs.Formed.{nodes_of}
 use Rattle.lo_terms.proofs.LowerLemmas.{nodes-node, nodes-int, nodes-var, nodes-more}
 use Rattle.lo_terms.proofs.Within.{within-int, within-var, within-node, within-more}
 use Rattle.lo_terms.proofs.tests.+counting.Goals as goal

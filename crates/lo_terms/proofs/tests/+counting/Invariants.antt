@@ -1,6 +1,6 @@
 use Rattle.std.proofs.Common.{◌≡◌, ◌+◌, All, drop}
-use Rattle.lo_terms.specs.Lowering.{nodes_of}
-use Rattle.xs_expr.specs.Bounds.{HasVariables}
+use Rattle.xs_model.specs.Formed.{nodes_of}
+use Rattle.xs_model.specs.Bounds.{HasVariables}
 use Rattle.lo_terms.proofs.tests.+counting.Given as goal
 
 abbrev pub invariant-all_within-loop-item : goal.invariant-all_within-loop-item

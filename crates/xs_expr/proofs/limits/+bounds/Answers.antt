@@ -1,8 +1,8 @@
 use Rattle.std.proofs.Common.{List, rules, pos, map, subst, ap, sym, ◌∙◌}
 use Rattle.std.proofs.lemmas.List.{get_or_read}
 use Rattle.xs_model.specs.declared.expr.Expr.{Expr, the_lemmas}
-use Rattle.xs_expr.specs.Bounds.{HasSpan, exactly, bounds, all_ok, and_then, node_bounds}
-use Rattle.xs_expr.specs.Shape.{HasShape, ArePlaced}
+use Rattle.xs_model.specs.Bounds.{HasSpan, exactly, bounds, all_ok, and_then, node_bounds}
+use Rattle.xs_model.specs.Shape.{HasShape, ArePlaced}
 use Rattle.xs_expr.proofs.Every.{every-operands, every-node, every-var}
 use Rattle.xs_expr.proofs.Gathered.{gathered_of-node}
 use Rattle.xs_expr.proofs.Layers.{bounds-Node}

@@ -1,5 +1,5 @@
 use Rattle.std.proofs.Common.{◌≡◌, map, drop}
-use Rattle.xs_expr.specs.Bounds.{bounds, all_ok}
+use Rattle.xs_model.specs.Bounds.{bounds, all_ok}
 use Rattle.xs_expr.specs.Operands.{gathered_of, none}
 use Rattle.xs_expr.proofs.limits.+bounds.Given as goal
 

@@ -5,10 +5,10 @@ use Rattle.xf_num.specs.Span.{Bounds}
 use Rattle.xf_text.specs.declared.fault.Kind.{Kind}
 use Rattle.xs_model.specs.declared.expr.Expr.{Expr, the_lemmas}
 use Rattle.xs_expr.specs.declared.limits.Operands.{Operands}
-use Rattle.xs_expr.specs.Bounds.{HasSpan, exactly, limited, operand, all_ok, and_then, node_bounds}
-use Rattle.xs_expr.specs.Magnitude.{weight, weighed, bounds_below, nodes_below}
+use Rattle.xs_model.specs.Bounds.{HasSpan, exactly, limited, operand, all_ok, and_then, node_bounds}
+use Rattle.xs_model.specs.Magnitude.{weight, weighed, bounds_below, nodes_below}
 use Rattle.xs_expr.specs.Operands.{gathered_of, none}
-use Rattle.xs_expr.specs.Shape.{HasShape, ArePlaced}
+use Rattle.xs_model.specs.Shape.{HasShape, ArePlaced}
 use Rattle.xs_expr.specs.Weights.{totalled, counted_of}
 use Rattle.xs_expr.proofs.Every.{every-operands, every-node, every-var}
 use Rattle.xs_expr.proofs.Exponents.{power-exponent}

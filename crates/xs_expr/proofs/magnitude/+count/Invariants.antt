@@ -1,6 +1,6 @@
 use Rattle.std.proofs.Common.{◌≡◌, map, take, drop}
-use Rattle.xs_expr.specs.Bounds.{all_ok}
-use Rattle.xs_expr.specs.Magnitude.{weighed, bounds_below, nodes_below}
+use Rattle.xs_model.specs.Bounds.{all_ok}
+use Rattle.xs_model.specs.Magnitude.{weighed, bounds_below, nodes_below}
 use Rattle.xs_expr.specs.Operands.{gathered_of, none}
 use Rattle.xs_expr.specs.Weights.{totalled}
 use Rattle.xs_expr.proofs.magnitude.+count.Given as goal

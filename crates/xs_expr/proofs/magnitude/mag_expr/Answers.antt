@@ -1,5 +1,5 @@
 use Rattle.std.proofs.Common.{sym, ◌∙◌}
-use Rattle.xs_expr.specs.Magnitude.{weighed, total_of}
+use Rattle.xs_model.specs.Magnitude.{weighed}
 use Rattle.xs_expr.proofs.Weighed.{weighed-bounds, counted-is, fault-is, no-fault}
 use Rattle.xs_expr.proofs.magnitude.mag_expr.Goals as goal
 
@@ -7,7 +7,7 @@ pub returns-in-Ok : goal.returns-in-Ok
 returns-in-Ok c =
     let w = weighed c.args.spans.now c.args.e.now in
     let known = counted-is w c.in-Ok.counted (sym c.count_nodes.ensures ∙ c.in-Ok.is) in
-    c.small.ensures (total_of w.nodes) (c.whole.ensures w.nodes known.1)
+    c.whole.ensures w.nodes known.1
 
 pub returns-in-Err : goal.returns-in-Err
 returns-in-Err c =

@@ -1,8 +1,8 @@
 use Rattle.std.proofs.Common.{◌≡◌, ◌<◌, map, take, drop, sum, length}
 use Rattle.std.specs.List.{AllByRecursion}
 use Rattle.xf_num.specs.Span.{magnitude_of}
-use Rattle.xs_expr.specs.Bounds.{operand}
-use Rattle.xs_expr.specs.Magnitude.{capped}
+use Rattle.xs_model.specs.Bounds.{operand}
+use Rattle.xs_model.specs.Magnitude.{capped}
 use Rattle.xs_expr.proofs.magnitude.variables.Given as goal
 
 abbrev pub invariant-loop-variable : goal.invariant-loop-variable

@@ -2,9 +2,9 @@ use Rattle.std.proofs.Common.{List, All, subst, sym, ◌∙◌}
 use Rattle.xs_model.specs.declared.expr.Expr.{Expr}
 use Rattle.xs_model.specs.declared.expr.Expr.TheOpen.{Expr-F}
 use Rattle.xs_model.specs.declared.expr.Expr.TheVariants.{rolls-Int, rolls-Var}
-use Rattle.xs_expr.specs.Shape.{HasShape, IsShaped}
-use Rattle.xs_expr.proofs.Every.{every-operands, every-node}
-use Rattle.xs_expr.proofs.Shapes.{shape-is, is-shape, shaped-Int, shaped-Var, shaped-node, shaped-more, shaped-fewer}
+use Rattle.xs_model.specs.Shape.{HasShape, IsShaped}
+use Rattle.xs_expr.proofs.Every.{every-operands, every-node, made-more}
+use Rattle.xs_expr.proofs.Shapes.{shape-is, is-shape, shaped-Int, shaped-Var, shaped-node, shaped-fewer}
 use Rattle.xs_expr.proofs.shape.+shape.Goals as goal
 
 pub are_shaped-loop-item-preserved : goal.are_shaped-loop-item-preserved
@@ -12,7 +12,7 @@ are_shaped-loop-item-preserved t c =
     let es = c.args.items.now in
     let i = c.loop-item.item-index in
     let item = c.item-item.result in record {
-      whole = λ all. c.loop-item.invariant.whole (shaped-more i es item c.loop-item-test.true c.item-item.is (c.is_shaped.ensures.shaped c.if-not-is_shaped.false) all);
+      whole = λ all. c.loop-item.invariant.whole (made-more HasShape i es item c.loop-item-test.true c.item-item.is (c.is_shaped.ensures.shaped c.if-not-is_shaped.false) all);
       left = λ all. shaped-fewer i es item c.loop-item-test.true c.item-item.is (c.loop-item.invariant.left all);
     }
 

@@ -1,5 +1,5 @@
 use Rattle.std.proofs.Common.{All, drop}
-use Rattle.xs_expr.specs.Shape.{IsShaped}
+use Rattle.xs_model.specs.Shape.{IsShaped}
 use Rattle.xs_expr.proofs.shape.+shape.Given as goal
 
 abbrev pub invariant-are_shaped-loop-item : goal.invariant-are_shaped-loop-item

@@ -1,7 +1,7 @@
 use Rattle.std.proofs.Common.{◌≡◌, ◌++◌, List, ℕ, [], rules, length, map, codes, ap, sym, ◌∙◌}
 use Rattle.xs_model.specs.Names.{words}
 use Rattle.xs_model.specs.declared.expr.Expr.{Expr, the_lemmas}
-use Rattle.xs_expr.specs.Bounds.{HasVariable}
+use Rattle.xs_model.specs.Bounds.{HasVariable}
 use Rattle.xs_expr.specs.Text.{joined_from, name_of, written}
 use Rattle.xs_expr.proofs.Every.{every-operands, every-var}
 use Rattle.xs_expr.proofs.Layers.{regrouped, written-Node}

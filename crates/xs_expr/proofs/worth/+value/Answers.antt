@@ -6,7 +6,7 @@ use Rattle.xs_model.specs.declared.expr.Op.{Op}
 use Rattle.xs_model.specs.declared.expr.Op.TheVariants.{In, NotIn}
 use Rattle.xs_model.specs.declared.expr.Expr.{Expr, Node, the_lemmas}
 use Rattle.xs_model.specs.Value.{val, worth, at, second_members}
-use Rattle.xs_expr.specs.Shape.{IsCount}
+use Rattle.xs_model.specs.Shape.{IsCount}
 use Rattle.xs_expr.specs.Worths.{Fits, FitsAt, StepsFit, NodeFits, all_values, no_values, with_value}
 use Rattle.xs_expr.proofs.Every.{every-operands, every-node, every-var}
 use Rattle.xs_expr.proofs.Layers.{val-Node}

@@ -1,5 +1,5 @@
 use Rattle.std.proofs.Common.{refl}
-use Rattle.xs_expr.specs.Bounds.{points}
+use Rattle.xs_model.specs.Bounds.{points}
 use Rattle.xs_expr.proofs.Sound.{bounds-Fits, points-within}
 use Rattle.xs_expr.proofs.worth.value.Goals as goal
 
