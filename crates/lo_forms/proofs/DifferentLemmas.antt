@@ -98,13 +98,13 @@ different_before n [] h = tt
 different_before n (x ∷ xs) h = joined_before n (differ_from x xs) (low_different xs) (differ_before n x xs h.0 h.1) (different_before n xs h.1)
 
 -- the leaves of the calls that the items post
-abbrev leaves : List Item → ℕ
+abbrev pub leaves : List Item → ℕ
 leaves xs = sum (map call_leaves (calls_of xs))
 
 sum_cons : (x : ℕ) (xs : List ℕ) → sum (x ∷ xs) ≡ x + sum xs
 sum_cons x xs = let h : sum (x ∷ xs) ≡ (0 + x) + sum xs = sum_by-append (λ n. n) (x ∷ []) xs in omega (arith, h)
 
-leaves-append : (xs ys : List Item) → leaves (xs ++ ys) ≡ leaves xs + leaves ys
+pub leaves-append : (xs ys : List Item) → leaves (xs ++ ys) ≡ leaves xs + leaves ys
 leaves-append [] ys = omega arith
 leaves-append (Ranged lo hi ∷ xs) ys = leaves-append xs ys
 leaves-append (Boolean ∷ xs) ys = leaves-append xs ys

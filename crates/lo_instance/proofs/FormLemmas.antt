@@ -1,6 +1,8 @@
 -- The laws of constraints, by cases on the form, and of lists of constraints.
-use Rattle.std.proofs.Common.{ℕ, ◌+◌, ◌≤◌, ℤ, List, [], ◌∷◌, ◌++◌, length, map, sym, ◌∙◌, subst, arith}
+use Rattle.std.proofs.Common.{◌≡◌, ℕ, ◌+◌, ◌*◌, ◌≤◌, ℤ, List, [], ◌∷◌, ◌++◌, length, map, ap, sym, ◌∙◌, subst, arith}
+use Rattle.std.proofs.lemmas.List.Sums.{sum-map, sum_by-cons}
 use Rattle.std.specs.List.{AllByRecursion}
+use Rattle.std.specs.Prelude.{sum}
 use Rattle.xf_num.specs.Span.{Bounds}
 use Rattle.xs_model.specs.declared.instance.Constraint.{Constraint}
 use Rattle.xs_model.specs.declared.instance.Constraint.TheVariants.{AllDifferent, Intension}
@@ -15,13 +17,13 @@ use Rattle.lo_base.proofs.Solving.{made-append, below_longer, map_at_front, exte
 use Rattle.lo_base.proofs.Steps.{joins, stepwise_nil}
 use Rattle.lo_base.proofs.Within.{IsSteady, within_any, means_within_join}
 use Rattle.lo_forms.specs.Different.{low_different}
-use Rattle.lo_forms.proofs.DifferentLemmas.{different_means, different_stepwise, different_before, different_size}
+use Rattle.lo_forms.proofs.DifferentLemmas.{different_means, different_stepwise, different_before, different_size, leaves, leaves-append}
 use Rattle.lo_meaning.proofs.Joins.{begins_within_lasts, value_front}
 use Rattle.lo_meaning.proofs.Meaning.{intension_means}
 use Rattle.lo_steps.proofs.Expressions.{intension_stepwise, intension_before}
 use Rattle.lo_steps.proofs.Squares.{intension_leaves}
 use Rattle.lo_instance.specs.Form.{low_form, low_all}
-use Rattle.lo_instance.specs.Laws.{FormMeans, FormStepwise, FormBefore, FormSize, AllHold, AllMean, AllStepwise, AllBefore}
+use Rattle.lo_instance.specs.Laws.{FormMeans, FormStepwise, FormBefore, FormSize, AllHold, AllMean, AllStepwise, AllBefore, AllSize, square_of}
 
 pub form_means : FormMeans
 form_means ss n (AllDifferent list) s le =
@@ -79,3 +81,17 @@ all_before ss n (c ∷ cs) s le =
     let k : ℕ = n + made (xs ++ ys) in
     joined_before k xs ys (before_longer (n + made xs) k (omega (arith, made-append xs ys)) (calls_of xs) (form_before ss n c s.0 le))
     (before_longer (n + made xs + made ys) k (omega (arith, made-append xs ys)) (calls_of ys) (all_before ss (n + made xs) cs s.1 (omega (arith, le))))
+
+square_more : (c : Constraint) (cs : List Constraint) → sum (map square_of (c ∷ cs)) ≡ square_of c + sum (map square_of cs)
+square_more c cs = sum-map square_of (c ∷ cs) ∙ sum_by-cons square_of c cs ∙ ap (λ m. square_of c + m) (sym (sum-map square_of cs))
+
+both_sizes : (a b s t : ℕ) → a ≤ 64 * s → b ≤ 64 * t → a + b ≤ 64 * (s + t)
+both_sizes a b s t h k = omega (arith, h, k)
+
+pub all_size : AllSize
+all_size ss n [] = omega arith
+all_size ss n (c ∷ cs) =
+    let xs : List Item = low_form ss n c in
+    let ys : List Item = low_all ss (n + made xs) cs in
+    let both = both_sizes (made xs + leaves xs) (made ys + leaves ys) (square_of c) (sum (map square_of cs)) (form_size ss n c) (all_size ss (n + made xs) cs) in
+    omega (arith, made-append xs ys, leaves-append xs ys, square_more c cs, both)

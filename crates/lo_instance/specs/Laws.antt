@@ -43,5 +43,13 @@ AllMean = (ss : List Bounds) (n : ℕ) (cs : List Constraint) → AllByRecursion
 abbrev pub AllStepwise : Type 0
 AllStepwise = (ss : List Bounds) (n : ℕ) (cs : List Constraint) → AllByRecursion (IsSoundConstraint ss) cs → length ss ≤ n → Stepwise n (low_all ss n cs)
 
+-- the square of one more than the items of a constraint
+abbrev pub square_of : Constraint → ℕ
+square_of c = (1 + items_of c) * (1 + items_of c)
+
+-- how many variables the items make and how many leaves the calls have, in terms of the items of each constraint
+abbrev pub AllSize : Type 0
+AllSize = (ss : List Bounds) (n : ℕ) (cs : List Constraint) → made (low_all ss n cs) + sum (map call_leaves (calls_of (low_all ss n cs))) ≤ 64 * sum (map square_of cs)
+
 abbrev pub AllBefore : Type 0
 AllBefore = (ss : List Bounds) (n : ℕ) (cs : List Constraint) → AllByRecursion (IsSoundConstraint ss) cs → length ss ≤ n → AreCallsBefore (n + made (low_all ss n cs)) (calls_of (low_all ss n cs))

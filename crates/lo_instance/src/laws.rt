@@ -1,6 +1,6 @@
 //! What constraints are lowered to, and what that means.
 
-ghost use Rattle.lo_instance.specs.Laws.{FormMeans, FormStepwise, FormBefore, FormSize, AllMean, AllStepwise, AllBefore};
+ghost use Rattle.lo_instance.specs.Laws.{FormMeans, FormStepwise, FormBefore, FormSize, AllMean, AllStepwise, AllBefore, AllSize};
 
 /// What a sound constraint is lowered to means that it holds: values of the variables before, within their bounds,
 /// meet the calls, by some values of the new variables, exactly where the constraint holds of them.
@@ -38,4 +38,10 @@ pub fn all_stepwise()
 /// the new ones alone.
 pub fn all_before()
     ensures { AllBefore }
+{}
+
+/// How many variables constraints make, one after the other, and how many leaves their calls have: together at
+/// most 64 times the sum, over the constraints, of the square of one more than the items.
+pub fn all_size()
+    ensures { AllSize }
 {}

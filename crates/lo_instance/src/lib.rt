@@ -13,5 +13,6 @@ mod laws;
 
 pub use constraint::lower_constraint;
 pub use laws::{
-    all_before, all_means, all_stepwise, form_before, form_means, form_size, form_stepwise,
+    all_before, all_means, all_size, all_stepwise, form_before, form_means, form_size,
+    form_stepwise,
 };

@@ -1,6 +1,6 @@
 -- The model of an instance extends it, whatever items it is lowered to that mean its constraints.
 use Rattle.std.proofs.Common.{◌≡◌, ℕ, suc, ◌+◌, ◌≤◌, ℤ, pos, List, [], ◌∷◌, ◌++◌, length, map, take, refl, ap, sym, subst, ◌∙◌, arith, append-nil}
-use Rattle.std.proofs.lemmas.List.{map-append, ext_get_or, get_or_append_left, take_all}
+use Rattle.std.proofs.lemmas.List.{map-append, ext_get_or, get_or_append_left, take_all, length-append}
 use Rattle.std.proofs.Math.Seq.{take-append_seam}
 use Rattle.xf_problem.specs.Problem.{Extends, ExtendsOnce}
 use Rattle.xs_model.specs.declared.instance.Instance.{Instance}
@@ -22,8 +22,8 @@ use Rattle.lo_base.specs.Solved as items
 use Rattle.lo_base.specs.Stepwise.{Stepwise}
 use Rattle.lo_base.proofs.Steps.{one_extension}
 use Rattle.lo_instance.specs.Laws.{AllHold}
-use Rattle.lo_instance.proofs.FormLemmas.{all_means, all_stepwise}
-use Rattle.xf_carry.specs.Lowered.{low_items, model_of, LowExtends, LowExtendsOnce}
+use Rattle.lo_instance.proofs.FormLemmas.{all_means, all_size, all_stepwise}
+use Rattle.xf_carry.specs.Lowered.{low_items, model_of, LowExtends, LowExtendsOnce, LowSize}
 use Rattle.xf_carry.proofs.Members.{members_split, members_join, members_length, shown_members, members_shown, made_members, meets_calls, members_meet}
 
 abbrev name : FzVar → List ℕ
@@ -120,3 +120,10 @@ low_extends i s = model_extends i (low_items i) s (all_means (spans_of i.decls) 
 
 pub low_extends_once : LowExtendsOnce
 low_extends_once i s = model_extends_once i (low_items i) s (all_stepwise (spans_of i.decls) (count i) i.constraints s.constraints (few_spans i s))
+
+pub low_size : LowSize
+low_size i s =
+    let xs : List Item = low_items i in
+    let vars : length (shown_vars i.decls ++ vars_of 0 xs) ≡ count i + made xs =
+    length-append (shown_vars i.decls) (vars_of 0 xs) ∙ ap (λ n. n + length (vars_of 0 xs)) (shown_count i s) ∙ ap (λ n. count i + n) (length-vars_of 0 xs) in
+    omega (arith, vars, all_size (spans_of i.decls) (count i) i.constraints)
