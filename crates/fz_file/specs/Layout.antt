@@ -1,5 +1,6 @@
--- The layout of a model: one item per line (MiniZinc Handbook, "FlatZinc grammar").
-use Rattle.std.specs.Prelude.{ℕ, ◌-◌, ℤ, pos, ◌+ℤ◌, List, [], ◌∷◌, ◌++◌, Bool as Truth, true, false, if◌then◌else◌, zero, suc, length, nat_lt, map, codes, slice_index_or}
+-- The layout of a model: one item per line, first the variables, then the output arrays, the calls and the goal
+-- (MiniZinc Handbook, "FlatZinc grammar").
+use Rattle.std.specs.Prelude.{ℕ, ◌-◌, ℤ, pos, ◌+ℤ◌, Option, Some, None, List, [], ◌∷◌, ◌++◌, Bool as Truth, true, false, if◌then◌else◌, zero, suc, length, nat_lt, map, codes, slice_index_or}
 use Rattle.std.specs.List.{flat_map}
 use Rattle.std.specs.Int.{int_gap}
 use Rattle.std.specs.Fmt.{decimal, signed_decimal}
@@ -14,6 +15,7 @@ use Rattle.fz_model.specs.declared.model.FzVar.{FzVar}
 use Rattle.fz_model.specs.declared.model.Goal.{Goal}
 use Rattle.fz_model.specs.declared.model.Goal.TheVariants.{Satisfy, Minimize, Maximize}
 use Rattle.fz_model.specs.declared.model.Model.{Model}
+use Rattle.fz_model.specs.declared.model.Output.{Output}
 
 -- each text behind a comma
 abbrev pub commas : List (List ℕ) → List ℕ
@@ -56,10 +58,6 @@ abbrev pub shown_text : Truth → List ℕ
 shown_text true = codes " :: output_var"
 shown_text false = []
 
--- the line of a variable
-abbrev pub var_line : FzVar → List ℕ
-var_line v = codes "var " ++ (type_text v.boolean v.domain ++ (codes ": " ++ (v.name ++ (shown_text v.shown ++ codes ";\n"))))
-
 -- the name of variable k: that of the list, or past its end `a_` and how far past it
 abbrev pub name_at : List (List ℕ) → ℕ → List ℕ
 name_at names k = if nat_lt k (length names) then slice_index_or names k [] else codes "a_" ++ decimal (k - length names)
@@ -79,6 +77,34 @@ arg_step names (Arg-F.List ts) = codes "[" ++ (listed ts ++ codes "]")
 
 abbrev pub arg_text : List (List ℕ) → Arg → List ℕ
 arg_text names = fold-Arg (List ℕ) (arg_step names)
+
+-- what a variable is declared to equal
+abbrev pub equal_text : List (List ℕ) → Option Arg → List ℕ
+equal_text names None = []
+equal_text names (Some a) = codes " = " ++ arg_text names a
+
+-- the line of a variable; only what it is declared to equal has names in it
+abbrev pub var_line : List (List ℕ) → FzVar → List ℕ
+var_line names v = codes "var " ++ (type_text v.boolean v.domain ++ (codes ": " ++ (v.name ++ (shown_text v.shown ++ (equal_text names v.equal ++ codes ";\n")))))
+
+abbrev pub member_text : Truth → List ℕ
+member_text true = codes "bool"
+member_text false = codes "int"
+
+-- the length of an array, the type of its members and its name
+unfoldable pub output_head : Output → List ℕ
+output_head o = codes "array [1.." ++ (decimal (length o.members) ++ (codes "] of var " ++ (member_text o.boolean ++ (codes ": " ++ o.name))))
+
+-- the ranges of its indices
+unfoldable pub dims_head : List ℕ
+dims_head = codes " :: output_array(["
+
+abbrev pub dims_text : List Bounds → List ℕ
+dims_text dims = dims_head ++ (listed (map range_text dims) ++ codes "])")
+
+-- the line of an output array
+unfoldable pub output_line : List (List ℕ) → Output → List ℕ
+output_line names o = output_head o ++ (dims_text o.dims ++ (codes " = [" ++ (listed (map (arg_text names) o.members) ++ codes "];\n")))
 
 unfoldable pub call_head : Builtin → List ℕ
 call_head b = codes "constraint " ++ name_of b
@@ -101,4 +127,6 @@ names_of vs = map (λ (v : FzVar). v.name) vs
 
 -- all lines of a model
 abbrev pub layout : Model → List ℕ
-layout m = flat_map var_line m.vars ++ (flat_map (call_line (names_of m.vars)) m.calls ++ goal_line (names_of m.vars) m.goal)
+layout m =
+    let names : List (List ℕ) = names_of m.vars in
+    flat_map (var_line names) m.vars ++ (flat_map (output_line names) m.outputs ++ (flat_map (call_line names) m.calls ++ goal_line names m.goal))

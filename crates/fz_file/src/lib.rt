@@ -11,5 +11,5 @@ mod number;
 #[cfg(test)]
 mod tests;
 
-pub use line::{push_call, push_goal, push_var};
+pub use line::{push_call, push_goal, push_output, push_var};
 pub use model::{call_line, goal_line, var_line, write_model};

@@ -1,6 +1,6 @@
 //! Numbers as text.
 
-ghost use Rattle.std.specs.Prelude.{◌≡◌, ◌∷◌, ◌++◌, ◌+ℤ◌, pos, OnOk};
+ghost use Rattle.std.specs.Prelude.{◌≡◌, ◌∷◌, ◌++◌, ◌+ℤ◌, pos, map, OnOk};
 ghost use Rattle.std.specs.Fmt.{decimal, signed_decimal};
 ghost use Rattle.std.specs.List.{flat_map};
 ghost use Rattle.std.specs.Int.{int_gap};
@@ -34,6 +34,21 @@ pub fn push_range(out: &mut Vec<u8>, span: Span) -> Result<(), NoMemory>
     push_number(out, span.lo())?;
     out.extend_from_slice(b"..")?;
     push_number(out, span.hi())?;
+    Ok(())
+}
+
+/// Appends ranges with commas between them.
+pub fn push_spans(out: &mut Vec<u8>, spans: &[Span]) -> Result<(), NoMemory>
+    ensures { OnOk result (out.new.items ≡ out.old.items ++ listed (map range_text spans.now)) }
+{
+    let mut first = true;
+    for span in spans {
+        if !first {
+            out.extend_from_slice(b",")?;
+        }
+        push_range(out, *span)?;
+        first = false;
+    }
     Ok(())
 }
 

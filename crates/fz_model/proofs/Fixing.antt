@@ -29,7 +29,7 @@ items_same : (k : ℕ) (b c : List ℤ) (xs : List Arg) → Agree k b c → AreI
 items_same k b c [] agree h = refl
 items_same k b c (x ∷ xs) agree h = ap (λ z. z ∷ map (number b) xs) (item_same k b c (out-Arg x) agree h.0) ∙ ap (λ zs. number c x ∷ zs) (items_same k b c xs agree h.1)
 
-number_same : (k : ℕ) (b c : List ℤ) (l : Arg-F Arg) → Agree k b c → IsBeforeOf k l → number_of b l ≡ number_of c l
+pub number_same : (k : ℕ) (b c : List ℤ) (l : Arg-F Arg) → Agree k b c → IsBeforeOf k l → number_of b l ≡ number_of c l
 number_same k b c (Int z) agree h = refl
 number_same k b c (Bool t) agree h = refl
 number_same k b c (Var v) agree h = agree v h
@@ -37,7 +37,7 @@ number_same k b c (Range s) agree h = refl
 number_same k b c (Set s) agree h = refl
 number_same k b c (Listed xs) agree h = refl
 
-numbers_same : (k : ℕ) (b c : List ℤ) (l : Arg-F Arg) → Agree k b c → IsBeforeOf k l → map (number b) (members_of l) ≡ map (number c) (members_of l)
+pub numbers_same : (k : ℕ) (b c : List ℤ) (l : Arg-F Arg) → Agree k b c → IsBeforeOf k l → map (number b) (members_of l) ≡ map (number c) (members_of l)
 numbers_same k b c (Int z) agree h = refl
 numbers_same k b c (Bool t) agree h = refl
 numbers_same k b c (Var v) agree h = refl
@@ -48,7 +48,7 @@ numbers_same k b c (Listed xs) agree h = items_same k b c xs agree h
 worth_by : ℤ → List ℤ → (ℤ → Truth) → Worth
 worth_by n ns f = record { number = n; numbers = ns; has = f }
 
-worth_same : (k : ℕ) (b c : List ℤ) (a : Arg) → Agree k b c → IsBefore k a → worth b a ≡ worth c a
+pub worth_same : (k : ℕ) (b c : List ℤ) (a : Arg) → Agree k b c → IsBefore k a → worth b a ≡ worth c a
 unfolding IsBefore worth_by
 worth_same k b c a agree h = ap (λ n. worth_by n (numbers b a) (has a)) (number_same k b c (out-Arg a) agree h) ∙ ap (λ ns. worth_by (number c a) ns (has a)) (numbers_same k b c (out-Arg a) agree h)
 
@@ -415,7 +415,7 @@ pub item_before-Var : (k v : ℕ) → v < k → IsItemBefore k (out-Arg (arg.Var
 unfolding out-Arg denote.Hole.Carrier.out
 item_before-Var k v h = h
 
-is_var : (k : ℕ) → IsVar k (out-Arg (arg.Var k))
+pub is_var : (k : ℕ) → IsVar k (out-Arg (arg.Var k))
 unfolding out-Arg denote.Hole.Carrier.out
 is_var k = refl
 

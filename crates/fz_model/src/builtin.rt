@@ -2,9 +2,12 @@
 
 ghost use Rattle.std.specs.Prelude.{◌≡◌, IfSome};
 ghost use Rattle.fz_model.specs.Builtins.{name_of, look_up};
+ghost use Rattle.fz_model.specs.Kinds.{is_linear, kinds_at, kinds_of};
 ghost use Rattle.fz_model.specs.declared.builtin.Builtin.{Builtin};
 
-/// A builtin; `name` gives its spelling.
+use crate::kind::{Asked, Kind};
+
+/// A builtin, one for each row of the table.
 #[derive(Clone, Copy, Debug, PartialEq, Eq)]
 pub enum Builtin {
     IntLinEq,
@@ -56,71 +59,95 @@ pub enum Builtin {
     SetInReif,
 }
 
+const INT: Kind = Kind::One(Asked::Int);
+
+const BOOL: Kind = Kind::One(Asked::Bool);
+
+const INT_CONSTANT: Kind = Kind::One(Asked::IntConstant);
+
+const INTS: Kind = Kind::Many(Asked::Int);
+
+const BOOLS: Kind = Kind::Many(Asked::Bool);
+
+const INT_CONSTANTS: Kind = Kind::Many(Asked::IntConstant);
+
+const BOOL_CONSTANTS: Kind = Kind::Many(Asked::BoolConstant);
+
+const SET: Kind = Kind::Set;
+
 macro_rules! builtin_rows {
     ($rows:ident $value:expr) => {
         $rows!(
             $value;
-            IntLinEq b"int_lin_eq",
-            IntLinNe b"int_lin_ne",
-            IntLinLe b"int_lin_le",
-            IntLinEqReif b"int_lin_eq_reif",
-            IntLinNeReif b"int_lin_ne_reif",
-            IntLinLeReif b"int_lin_le_reif",
-            IntEq b"int_eq",
-            IntNe b"int_ne",
-            IntLe b"int_le",
-            IntLt b"int_lt",
-            IntEqReif b"int_eq_reif",
-            IntNeReif b"int_ne_reif",
-            IntLeReif b"int_le_reif",
-            IntLtReif b"int_lt_reif",
-            IntAbs b"int_abs",
-            IntPlus b"int_plus",
-            IntTimes b"int_times",
-            IntDiv b"int_div",
-            IntMod b"int_mod",
-            IntMin b"int_min",
-            IntMax b"int_max",
-            ArrayIntMinimum b"array_int_minimum",
-            ArrayIntMaximum b"array_int_maximum",
-            ArrayIntElement b"array_int_element",
-            ArrayVarIntElement b"array_var_int_element",
-            ArrayBoolElement b"array_bool_element",
-            ArrayVarBoolElement b"array_var_bool_element",
-            Bool2Int b"bool2int",
-            BoolEq b"bool_eq",
-            BoolLe b"bool_le",
-            BoolLt b"bool_lt",
-            BoolEqReif b"bool_eq_reif",
-            BoolLeReif b"bool_le_reif",
-            BoolLtReif b"bool_lt_reif",
-            BoolNot b"bool_not",
-            BoolAnd b"bool_and",
-            BoolOr b"bool_or",
-            BoolXor b"bool_xor",
-            BoolClause b"bool_clause",
-            BoolClauseReif b"bool_clause_reif",
-            ArrayBoolAnd b"array_bool_and",
-            ArrayBoolOr b"array_bool_or",
-            ArrayBoolXor b"array_bool_xor",
-            BoolLinEq b"bool_lin_eq",
-            BoolLinLe b"bool_lin_le",
-            SetIn b"set_in",
-            SetInReif b"set_in_reif",
+            IntLinEq b"int_lin_eq" [INT_CONSTANTS INTS INT_CONSTANT],
+            IntLinNe b"int_lin_ne" [INT_CONSTANTS INTS INT_CONSTANT],
+            IntLinLe b"int_lin_le" [INT_CONSTANTS INTS INT_CONSTANT],
+            IntLinEqReif b"int_lin_eq_reif" [INT_CONSTANTS INTS INT_CONSTANT BOOL],
+            IntLinNeReif b"int_lin_ne_reif" [INT_CONSTANTS INTS INT_CONSTANT BOOL],
+            IntLinLeReif b"int_lin_le_reif" [INT_CONSTANTS INTS INT_CONSTANT BOOL],
+            IntEq b"int_eq" [INT INT],
+            IntNe b"int_ne" [INT INT],
+            IntLe b"int_le" [INT INT],
+            IntLt b"int_lt" [INT INT],
+            IntEqReif b"int_eq_reif" [INT INT BOOL],
+            IntNeReif b"int_ne_reif" [INT INT BOOL],
+            IntLeReif b"int_le_reif" [INT INT BOOL],
+            IntLtReif b"int_lt_reif" [INT INT BOOL],
+            IntAbs b"int_abs" [INT INT],
+            IntPlus b"int_plus" [INT INT INT],
+            IntTimes b"int_times" [INT INT INT],
+            IntDiv b"int_div" [INT INT INT],
+            IntMod b"int_mod" [INT INT INT],
+            IntMin b"int_min" [INT INT INT],
+            IntMax b"int_max" [INT INT INT],
+            ArrayIntMinimum b"array_int_minimum" [INT INTS],
+            ArrayIntMaximum b"array_int_maximum" [INT INTS],
+            ArrayIntElement b"array_int_element" [INT INT_CONSTANTS INT],
+            ArrayVarIntElement b"array_var_int_element" [INT INTS INT],
+            ArrayBoolElement b"array_bool_element" [INT BOOL_CONSTANTS BOOL],
+            ArrayVarBoolElement b"array_var_bool_element" [INT BOOLS BOOL],
+            Bool2Int b"bool2int" [BOOL INT],
+            BoolEq b"bool_eq" [BOOL BOOL],
+            BoolLe b"bool_le" [BOOL BOOL],
+            BoolLt b"bool_lt" [BOOL BOOL],
+            BoolEqReif b"bool_eq_reif" [BOOL BOOL BOOL],
+            BoolLeReif b"bool_le_reif" [BOOL BOOL BOOL],
+            BoolLtReif b"bool_lt_reif" [BOOL BOOL BOOL],
+            BoolNot b"bool_not" [BOOL BOOL],
+            BoolAnd b"bool_and" [BOOL BOOL BOOL],
+            BoolOr b"bool_or" [BOOL BOOL BOOL],
+            BoolXor b"bool_xor" [BOOL BOOL BOOL],
+            BoolClause b"bool_clause" [BOOLS BOOLS],
+            BoolClauseReif b"bool_clause_reif" [BOOLS BOOLS BOOL],
+            ArrayBoolAnd b"array_bool_and" [BOOLS BOOL],
+            ArrayBoolOr b"array_bool_or" [BOOLS BOOL],
+            ArrayBoolXor b"array_bool_xor" [BOOLS],
+            BoolLinEq b"bool_lin_eq" [INT_CONSTANTS BOOLS INT],
+            BoolLinLe b"bool_lin_le" [INT_CONSTANTS BOOLS INT_CONSTANT],
+            SetIn b"set_in" [INT SET],
+            SetInReif b"set_in_reif" [INT SET BOOL],
         )
     };
 }
 
 macro_rules! names {
-    ($value:expr; $($variant:ident $name:literal,)*) => {
+    ($value:expr; $($variant:ident $name:literal [$($kind:ident)*],)*) => {
         match $value {
             $(Builtin::$variant => $name,)*
         }
     };
 }
 
+macro_rules! kinds {
+    ($value:expr; $($variant:ident $name:literal [$($kind:ident)*],)*) => {
+        match $value {
+            $(Builtin::$variant => &[$($kind,)*],)*
+        }
+    };
+}
+
 macro_rules! listed {
-    ($value:expr; $($variant:ident $name:literal,)*) => {
+    ($value:expr; $($variant:ident $name:literal [$($kind:ident)*],)*) => {
         [$(Builtin::$variant,)*]
     };
 }
@@ -128,18 +155,53 @@ macro_rules! listed {
 const ALL: [Builtin; 47] = builtin_rows!(listed());
 
 impl Builtin {
+    /// Its spelling.
     pub fn name(self) -> &'static [u8]
         ensures { result.now ≡ name_of self }
     {
         builtin_rows!(names self)
     }
 
+    /// The kinds of the arguments of a call with so many; those of all arguments where the number is not right.
+    pub fn kinds(self, count: usize) -> &'static [Kind]
+        ensures { result.now ≡ kinds_at self count }
+    {
+        match self {
+            Builtin::BoolXor if count == 2 => &[BOOL, BOOL],
+            _ => all_kinds(self),
+        }
+    }
+
+    /// Whether the call has a list of coefficients, and then a list of as many values.
+    pub fn is_linear(self) -> bool
+        ensures { result ≡ is_linear self }
+    {
+        matches!(
+            self,
+            Builtin::IntLinEq
+                | Builtin::IntLinNe
+                | Builtin::IntLinLe
+                | Builtin::IntLinEqReif
+                | Builtin::IntLinNeReif
+                | Builtin::IntLinLeReif
+                | Builtin::BoolLinEq
+                | Builtin::BoolLinLe
+        )
+    }
+
+    /// The builtin with this name; None where none has it.
     pub fn from_name(name: &[u8]) -> Option<Builtin>
         ensures named { IfSome result (λ b. name_of b ≡ name.now) }
         ensures every { (b : Builtin) → name_of b ≡ name.now → result ≡ Some b }
     {
         find(&ALL, name)
     }
+}
+
+fn all_kinds(builtin: Builtin) -> &'static [Kind]
+    ensures { result.now ≡ kinds_of builtin }
+{
+    builtin_rows!(kinds builtin)
 }
 
 /// The first of these with that name.
@@ -152,75 +214,4 @@ fn find(all: &[Builtin], name: &[u8]) -> Option<Builtin>
         }
     }
     None
-}
-
-#[cfg(test)]
-mod tests {
-    use super::*;
-
-    const NAMES: [(Builtin, &[u8]); 47] = [
-        (Builtin::IntLinEq, b"int_lin_eq"),
-        (Builtin::IntLinNe, b"int_lin_ne"),
-        (Builtin::IntLinLe, b"int_lin_le"),
-        (Builtin::IntLinEqReif, b"int_lin_eq_reif"),
-        (Builtin::IntLinNeReif, b"int_lin_ne_reif"),
-        (Builtin::IntLinLeReif, b"int_lin_le_reif"),
-        (Builtin::IntEq, b"int_eq"),
-        (Builtin::IntNe, b"int_ne"),
-        (Builtin::IntLe, b"int_le"),
-        (Builtin::IntLt, b"int_lt"),
-        (Builtin::IntEqReif, b"int_eq_reif"),
-        (Builtin::IntNeReif, b"int_ne_reif"),
-        (Builtin::IntLeReif, b"int_le_reif"),
-        (Builtin::IntLtReif, b"int_lt_reif"),
-        (Builtin::IntAbs, b"int_abs"),
-        (Builtin::IntPlus, b"int_plus"),
-        (Builtin::IntTimes, b"int_times"),
-        (Builtin::IntDiv, b"int_div"),
-        (Builtin::IntMod, b"int_mod"),
-        (Builtin::IntMin, b"int_min"),
-        (Builtin::IntMax, b"int_max"),
-        (Builtin::ArrayIntMinimum, b"array_int_minimum"),
-        (Builtin::ArrayIntMaximum, b"array_int_maximum"),
-        (Builtin::ArrayIntElement, b"array_int_element"),
-        (Builtin::ArrayVarIntElement, b"array_var_int_element"),
-        (Builtin::ArrayBoolElement, b"array_bool_element"),
-        (Builtin::ArrayVarBoolElement, b"array_var_bool_element"),
-        (Builtin::Bool2Int, b"bool2int"),
-        (Builtin::BoolEq, b"bool_eq"),
-        (Builtin::BoolLe, b"bool_le"),
-        (Builtin::BoolLt, b"bool_lt"),
-        (Builtin::BoolEqReif, b"bool_eq_reif"),
-        (Builtin::BoolLeReif, b"bool_le_reif"),
-        (Builtin::BoolLtReif, b"bool_lt_reif"),
-        (Builtin::BoolNot, b"bool_not"),
-        (Builtin::BoolAnd, b"bool_and"),
-        (Builtin::BoolOr, b"bool_or"),
-        (Builtin::BoolXor, b"bool_xor"),
-        (Builtin::BoolClause, b"bool_clause"),
-        (Builtin::BoolClauseReif, b"bool_clause_reif"),
-        (Builtin::ArrayBoolAnd, b"array_bool_and"),
-        (Builtin::ArrayBoolOr, b"array_bool_or"),
-        (Builtin::ArrayBoolXor, b"array_bool_xor"),
-        (Builtin::BoolLinEq, b"bool_lin_eq"),
-        (Builtin::BoolLinLe, b"bool_lin_le"),
-        (Builtin::SetIn, b"set_in"),
-        (Builtin::SetInReif, b"set_in_reif"),
-    ];
-
-    #[test]
-    fn names(rt: HostRuntime) {
-        for (place, (builtin, name)) in NAMES.iter().enumerate() {
-            assert!(rt; builtin.name() == *name, "row {place}");
-            assert_eq!(rt; Builtin::from_name(name), Some(*builtin), "row {place}");
-        }
-    }
-
-    #[test]
-    fn no_names(rt: HostRuntime) {
-        let unknown: [&[u8]; 4] = [b"int_gt", b"", b"INT_EQ", b"int_eq_rei"];
-        for name in unknown {
-            assert_eq!(rt; Builtin::from_name(name), None);
-        }
-    }
 }

@@ -1,5 +1,5 @@
 use crate::builtin::Builtin;
-use xf_num::{Domain, Ints, Row, Span, Text};
+use xf_num::{Domain, Ints, Row, Span, Spans, Text};
 
 /// What a call is given: a constant, a variable by its number, a set, or a list of these.
 #[derive(Drop)]
@@ -38,11 +38,26 @@ pub struct FzVar {
     /// Whether it is a Boolean variable; its values are then 0 and 1.
     pub boolean: bool,
     pub domain: Domain,
+    /// The constant or the earlier variable that its declaration says it equals.
+    pub equal: Option<Arg>,
     /// Whether solvers print its value.
     pub shown: bool,
 }
 
 pub type FzVars = Row<FzVar>;
+
+/// An array that solvers print: its members, and the ranges of its indices.
+#[derive(Drop)]
+pub struct Output {
+    pub name: Text,
+    /// Whether its members are Booleans.
+    pub boolean: bool,
+    /// One range for each dimension. Their sizes multiply to the number of members.
+    pub dims: Spans,
+    pub members: Args,
+}
+
+pub type Outputs = Row<Output>;
 
 /// What a solution is searched for: any, or one with the least or the greatest value of a variable.
 #[derive(Clone, Copy, Debug, PartialEq, Eq)]
@@ -56,6 +71,7 @@ pub enum Goal {
 #[derive(Drop)]
 pub struct Model {
     pub vars: FzVars,
+    pub outputs: Outputs,
     pub calls: Calls,
     pub goal: Goal,
 }

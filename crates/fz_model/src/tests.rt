@@ -1,241 +1,169 @@
-//! The table of builtins against hand-made values.
+//! The table of builtins, calls that are made, and the size of a model.
 
-ghost use Rattle.std.specs.Prelude.{◌≡◌, ◌<◌, ◌^◌, map, IfOk};
+ghost use Rattle.std.specs.Prelude.{◌<◌, ◌^◌, IfOk};
 ghost use Rattle.fz_model.specs.Size.{size_of};
-ghost use Rattle.fz_model.specs.Sound.{exactly};
 
-mod tables;
-
-use self::tables::{ARITHMETIC, COMPARISONS, FITTING, LISTS, MEMBERS, REIFIED, SUMS};
 use crate::{
-    Arg, Args, Builtin, Call, FzVar, Goal, Model, call_fits, call_holds, call_of, call_of_three,
-    size,
+    Arg, Asked, Builtin, FzVar, Goal, Kind, Model, call_of_four, call_of_one, call_of_three,
+    call_of_two, int_ne, size,
 };
 use std::alloc::Global;
-use std::process::Abort;
 use std::test::Fail;
 use xf_num::{Domain, NoMemory, Row, Span};
 
-/// An argument as the tables below write it.
-#[derive(Clone, Copy)]
-enum Given {
-    Int(i128),
-    Bool(bool),
-    Ints(&'static [i128]),
-    Bools(&'static [bool]),
-    Range(i128, i128),
-    Set(&'static [i128]),
-}
+// Each builtin with its name, and with the kinds of its arguments: an integer `I`, a Boolean `B`, constants `i` and `b`,
+// arrays of these in brackets, and a constant set `S`.
+const ROWS: [(Builtin, &[u8], &[u8]); 47] = [
+    (Builtin::IntLinEq, b"int_lin_eq", b"[i][I]i"),
+    (Builtin::IntLinNe, b"int_lin_ne", b"[i][I]i"),
+    (Builtin::IntLinLe, b"int_lin_le", b"[i][I]i"),
+    (Builtin::IntLinEqReif, b"int_lin_eq_reif", b"[i][I]iB"),
+    (Builtin::IntLinNeReif, b"int_lin_ne_reif", b"[i][I]iB"),
+    (Builtin::IntLinLeReif, b"int_lin_le_reif", b"[i][I]iB"),
+    (Builtin::IntEq, b"int_eq", b"II"),
+    (Builtin::IntNe, b"int_ne", b"II"),
+    (Builtin::IntLe, b"int_le", b"II"),
+    (Builtin::IntLt, b"int_lt", b"II"),
+    (Builtin::IntEqReif, b"int_eq_reif", b"IIB"),
+    (Builtin::IntNeReif, b"int_ne_reif", b"IIB"),
+    (Builtin::IntLeReif, b"int_le_reif", b"IIB"),
+    (Builtin::IntLtReif, b"int_lt_reif", b"IIB"),
+    (Builtin::IntAbs, b"int_abs", b"II"),
+    (Builtin::IntPlus, b"int_plus", b"III"),
+    (Builtin::IntTimes, b"int_times", b"III"),
+    (Builtin::IntDiv, b"int_div", b"III"),
+    (Builtin::IntMod, b"int_mod", b"III"),
+    (Builtin::IntMin, b"int_min", b"III"),
+    (Builtin::IntMax, b"int_max", b"III"),
+    (Builtin::ArrayIntMinimum, b"array_int_minimum", b"I[I]"),
+    (Builtin::ArrayIntMaximum, b"array_int_maximum", b"I[I]"),
+    (Builtin::ArrayIntElement, b"array_int_element", b"I[i]I"),
+    (
+        Builtin::ArrayVarIntElement,
+        b"array_var_int_element",
+        b"I[I]I",
+    ),
+    (Builtin::ArrayBoolElement, b"array_bool_element", b"I[b]B"),
+    (
+        Builtin::ArrayVarBoolElement,
+        b"array_var_bool_element",
+        b"I[B]B",
+    ),
+    (Builtin::Bool2Int, b"bool2int", b"BI"),
+    (Builtin::BoolEq, b"bool_eq", b"BB"),
+    (Builtin::BoolLe, b"bool_le", b"BB"),
+    (Builtin::BoolLt, b"bool_lt", b"BB"),
+    (Builtin::BoolEqReif, b"bool_eq_reif", b"BBB"),
+    (Builtin::BoolLeReif, b"bool_le_reif", b"BBB"),
+    (Builtin::BoolLtReif, b"bool_lt_reif", b"BBB"),
+    (Builtin::BoolNot, b"bool_not", b"BB"),
+    (Builtin::BoolAnd, b"bool_and", b"BBB"),
+    (Builtin::BoolOr, b"bool_or", b"BBB"),
+    (Builtin::BoolXor, b"bool_xor", b"BBB"),
+    (Builtin::BoolClause, b"bool_clause", b"[B][B]"),
+    (Builtin::BoolClauseReif, b"bool_clause_reif", b"[B][B]B"),
+    (Builtin::ArrayBoolAnd, b"array_bool_and", b"[B]B"),
+    (Builtin::ArrayBoolOr, b"array_bool_or", b"[B]B"),
+    (Builtin::ArrayBoolXor, b"array_bool_xor", b"[B]"),
+    (Builtin::BoolLinEq, b"bool_lin_eq", b"[i][B]I"),
+    (Builtin::BoolLinLe, b"bool_lin_le", b"[i][B]i"),
+    (Builtin::SetIn, b"set_in", b"IS"),
+    (Builtin::SetInReif, b"set_in_reif", b"ISB"),
+];
 
-fn int_args(alloc: Global, numbers: &[i128]) -> Result<Args, NoMemory> {
-    let mut args = Row::new(alloc);
-    for number in numbers {
-        args.push(Arg::Int(*number))?;
+fn letter(asked: Asked) -> u8 {
+    match asked {
+        Asked::Int => b'I',
+        Asked::Bool => b'B',
+        Asked::IntConstant => b'i',
+        Asked::BoolConstant => b'b',
     }
-    Ok(args)
 }
 
-fn bool_args(alloc: Global, truths: &[bool]) -> Result<Args, NoMemory> {
-    let mut args = Row::new(alloc);
-    for truth in truths {
-        args.push(Arg::Bool(*truth))?;
-    }
-    Ok(args)
-}
-
-/// The argument with its constants.
-fn constant(alloc: Global, given: Given) -> Result<Arg, NoMemory> {
-    match given {
-        Given::Int(number) => Ok(Arg::Int(number)),
-        Given::Bool(truth) => Ok(Arg::Bool(truth)),
-        Given::Ints(numbers) => Ok(Arg::List(int_args(alloc, numbers)?)),
-        Given::Bools(truths) => Ok(Arg::List(bool_args(alloc, truths)?)),
-        Given::Range(lo, hi) => Ok(Span::new(lo, hi).map_or(Arg::Bool(false), Arg::Range)),
-        Given::Set(numbers) => {
-            let mut members = Row::new(alloc);
-            members.extend(numbers)?;
-            Ok(Arg::Set(members))
+fn letters(alloc: Global, kinds: &[Kind]) -> Result<Vec<u8>, Fail> {
+    let mut text = Vec::new(alloc);
+    for kind in kinds {
+        match kind {
+            Kind::One(asked) => text.push(letter(*asked))?,
+            Kind::Many(asked) => text.extend_from_slice(&[b'[', letter(*asked), b']'])?,
+            Kind::Set => text.push(b'S')?,
         }
     }
-}
-
-/// The next variable, which has the value.
-fn variable(value: i128, values: &mut Vec<i128>) -> Result<Arg, NoMemory> {
-    let number = values.len() as u64;
-    values.push(value)?;
-    Ok(Arg::Var(number))
-}
-
-fn int_variables(
-    alloc: Global,
-    numbers: &[i128],
-    values: &mut Vec<i128>,
-) -> Result<Args, NoMemory> {
-    let mut args = Row::new(alloc);
-    for number in numbers {
-        args.push(variable(*number, values)?)?;
-    }
-    Ok(args)
-}
-
-fn bool_variables(
-    alloc: Global,
-    truths: &[bool],
-    values: &mut Vec<i128>,
-) -> Result<Args, NoMemory> {
-    let mut args = Row::new(alloc);
-    for truth in truths {
-        args.push(variable(i128::from(*truth), values)?)?;
-    }
-    Ok(args)
-}
-
-/// The argument with variables in the place of its constants.
-fn varied(alloc: Global, given: Given, values: &mut Vec<i128>) -> Result<Arg, NoMemory> {
-    match given {
-        Given::Int(number) => variable(number, values),
-        Given::Bool(truth) => variable(i128::from(truth), values),
-        Given::Ints(numbers) => Ok(Arg::List(int_variables(alloc, numbers, values)?)),
-        Given::Bools(truths) => Ok(Arg::List(bool_variables(alloc, truths, values)?)),
-        Given::Range(_, _) | Given::Set(_) => constant(alloc, given),
-    }
-}
-
-fn constant_call(alloc: Global, builtin: Builtin, given: &[Given]) -> Result<Call, NoMemory> {
-    let mut args = Row::new(alloc);
-    for one in given {
-        args.push(constant(alloc, *one)?)?;
-    }
-    Ok(call_of(builtin, args))
-}
-
-fn varied_call(
-    alloc: Global,
-    builtin: Builtin,
-    given: &[Given],
-    values: &mut Vec<i128>,
-) -> Result<Call, NoMemory> {
-    let mut args = Row::new(alloc);
-    for one in given {
-        args.push(varied(alloc, *one, values)?)?;
-    }
-    Ok(call_of(builtin, args))
-}
-
-/// The span of each value alone.
-fn points(alloc: Global, values: &[i128]) -> Result<Vec<Span>, NoMemory>
-    ensures { IfOk result (λ spans. spans.items ≡ map exactly values.now) }
-{
-    let mut spans = Vec::new(alloc);
-    for value in values {
-        spans.push(Span::new(*value, *value).unwrap())?;
-    }
-    Ok(spans)
-}
-
-/// Whether a call holds that fits the values.
-fn holds(rt: &impl Abort, alloc: Global, call: &Call, values: &[i128]) -> Result<bool, NoMemory> {
-    let spans = points(alloc, values)?;
-    assert!(rt; call_fits(call, spans.as_slice()));
-    Ok(call_holds(call, values))
-}
-
-/// Each row, with constants and with variables.
-fn check_rows(
-    rt: &impl Abort,
-    alloc: Global,
-    rows: &[(Builtin, &[Given], bool)],
-) -> Result<(), NoMemory> {
-    for (place, (builtin, given, expected)) in rows.iter().enumerate() {
-        let call = constant_call(alloc, *builtin, given)?;
-        assert_eq!(rt;
-            holds(rt, alloc, &call, &[])?,
-            *expected,
-            "row {place} with constants"
-        );
-        let mut values = Vec::new(alloc);
-        let call = varied_call(alloc, *builtin, given, &mut values)?;
-        assert_eq!(rt;
-            holds(rt, alloc, &call, values.as_slice())?,
-            *expected,
-            "row {place} with variables"
-        );
-    }
-    Ok(())
+    Ok(text)
 }
 
 #[test]
-fn comparisons(rt: HostRuntime) -> Result<(), Fail> {
-    check_rows(&rt, rt.alloc(), COMPARISONS)?;
-    Ok(())
-}
-
-#[test]
-fn reified(rt: HostRuntime) -> Result<(), Fail> {
-    check_rows(&rt, rt.alloc(), REIFIED)?;
-    Ok(())
-}
-
-#[test]
-fn lists_of_truths(rt: HostRuntime) -> Result<(), Fail> {
-    check_rows(&rt, rt.alloc(), LISTS)?;
-    Ok(())
-}
-
-#[test]
-fn arithmetic(rt: HostRuntime) -> Result<(), Fail> {
-    check_rows(&rt, rt.alloc(), ARITHMETIC)?;
-    Ok(())
-}
-
-#[test]
-fn sums(rt: HostRuntime) -> Result<(), Fail> {
-    check_rows(&rt, rt.alloc(), SUMS)?;
-    Ok(())
-}
-
-#[test]
-fn members_and_places(rt: HostRuntime) -> Result<(), Fail> {
-    check_rows(&rt, rt.alloc(), MEMBERS)?;
-    Ok(())
-}
-
-/// Whether the call of each row fits.
-fn check_fits(
-    rt: &impl Abort,
-    alloc: Global,
-    rows: &[(Builtin, &[Given], bool)],
-) -> Result<(), NoMemory> {
-    for (place, (builtin, given, expected)) in rows.iter().enumerate() {
-        let call = constant_call(alloc, *builtin, given)?;
-        assert_eq!(rt; call_fits(&call, &[]), *expected, "row {place}");
-    }
-    Ok(())
-}
-
-#[test]
-fn fitting(rt: HostRuntime) -> Result<(), Fail> {
+fn builtins(rt: HostRuntime) -> Result<(), Fail> {
     let alloc = rt.alloc();
-    check_fits(&rt, alloc, FITTING)?;
-    let half = 1 << 63;
-    let square = call_of_three(
+    for (place, (builtin, name, kinds)) in ROWS.iter().enumerate() {
+        assert!(rt; builtin.name() == *name, "row {place}");
+        assert_eq!(rt; Builtin::from_name(name), Some(*builtin), "row {place}");
+        assert!(rt;
+            letters(alloc, builtin.kinds(3))?.as_slice() == *kinds,
+            "row {place}"
+        );
+        assert_eq!(rt;
+            builtin.is_linear(),
+            kinds.starts_with(b"[i]"),
+            "row {place}"
+        );
+    }
+    assert!(rt; letters(alloc, Builtin::BoolXor.kinds(2))?.as_slice() == b"BB".as_slice());
+    let unknown: [&[u8]; 4] = [b"int_gt", b"", b"INT_EQ", b"int_eq_rei"];
+    for name in unknown {
+        assert_eq!(rt; Builtin::from_name(name), None);
+    }
+    Ok(())
+}
+
+#[test]
+fn made_calls(rt: HostRuntime) -> Result<(), Fail> {
+    let alloc = rt.alloc();
+    let ne = int_ne(alloc, 4, 7)?;
+    assert_eq!(rt; ne.builtin, Builtin::IntNe);
+    assert_eq!(rt; ne.place, 0);
+    assert!(rt; matches!(ne.args.as_slice(), [Arg::Var(4), Arg::Var(7)]));
+    let one = call_of_one(alloc, Builtin::ArrayBoolXor, Arg::List(Row::new(alloc)))?;
+    assert!(rt; matches!(one.args.as_slice(), [Arg::List(_)]));
+    let two = call_of_two(alloc, Builtin::IntLe, Arg::Int(1), Arg::Var(2))?;
+    assert!(rt; matches!(two.args.as_slice(), [Arg::Int(1), Arg::Var(2)]));
+    let three = call_of_three(
         alloc,
-        Builtin::IntTimes,
-        Arg::Var(0),
-        Arg::Var(0),
+        Builtin::BoolAnd,
         Arg::Var(1),
+        Arg::Bool(true),
+        Arg::Var(2),
     )?;
-    assert!(rt; call_fits(&square, &[Span::new(-half + 1, half - 1).unwrap()]));
-    assert!(rt; !call_fits(&square, &[Span::new(-half, 0).unwrap()]));
+    assert!(rt;
+        matches!(
+            three.args.as_slice(),
+            [Arg::Var(1), Arg::Bool(true), Arg::Var(2)]
+        )
+    );
+    let four = call_of_four(
+        alloc,
+        Builtin::IntLinLeReif,
+        Arg::Var(1),
+        Arg::Var(2),
+        Arg::Int(3),
+        Arg::Var(4),
+    )?;
+    assert!(rt;
+        matches!(
+            four.args.as_slice(),
+            [Arg::Var(1), Arg::Var(2), Arg::Int(3), Arg::Var(4)]
+        )
+    );
     Ok(())
 }
 
 fn flag(alloc: Global) -> Result<FzVar, NoMemory> {
-    let domain = Domain::of(Span::new(0, 1).unwrap(), alloc)?;
+    let domain = Domain::of(alloc, Span::new(0, 1).unwrap())?;
     Ok(FzVar {
         name: Row::new(alloc),
         boolean: true,
         domain,
+        equal: None,
         shown: false,
     })
 }
@@ -260,6 +188,7 @@ fn two_variables(alloc: Global) -> Result<Model, NoMemory>
     )?)?;
     Ok(Model {
         vars,
+        outputs: Row::new(alloc),
         calls,
         goal: Goal::Satisfy,
     })

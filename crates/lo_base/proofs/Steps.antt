@@ -3,7 +3,7 @@ use Rattle.std.proofs.Common.{◌≡◌, ◌⊎◌, ℕ, zero, suc, ◌+◌, ◌
 use Rattle.std.proofs.lemmas.Int.{ints}
 use Rattle.fz_model.specs.declared.model.Call.{Call}
 use Rattle.fz_model.specs.Meaning.{at}
-use Rattle.fz_model.specs.Fixing.{Fixes, Agree, NotOfBits}
+use Rattle.fz_model.specs.Fixing.{Fixes, Agree}
 use Rattle.fz_model.proofs.Fixing.{fixed_by_calls}
 use Rattle.lo_base.specs.Item.{Item, Ranged, Boolean, Posted, made}
 use Rattle.lo_base.specs.Solved.{Meets}
@@ -13,7 +13,7 @@ use Rattle.lo_base.proofs.Solving.{made-append, meets_split}
 between : (lo v w : ℤ) → lo ≤ℤ v → v ≤ℤ lo → lo ≤ℤ w → w ≤ℤ lo → v ≡ w
 between lo v w a b c d = omega (arith, ints)
 
-settled : (k n : ℕ) (xs : List Item) (b c : List ℤ) → Settles k n xs → Agree k b c → AreBits xs b → AreBits xs c → Meets n xs b → Meets n xs c → at b k ≡ at c k
+pub settled : (k n : ℕ) (xs : List Item) (b c : List ℤ) → Settles k n xs → Agree k b c → AreBits xs b → AreBits xs c → Meets n xs b → Meets n xs c → at b k ≡ at c k
 settled k n [] b c s agree t t' h h' = absurd s
 settled k n (Ranged lo hi ∷ xs) b c s agree t t' h h' = elim s [
   | inl p ↦ rw p.0 (between lo (at b n) (at c n) h.0 (rw p.1 h.1) h'.0 (rw p.1 h'.1))
@@ -32,14 +32,14 @@ below_or_not k m = grind arith
 one_more : (m : ℕ) (b c : List ℤ) → Agree m b c → at b m ≡ at c m → Agree (suc m) b c
 one_more m b c agree e j lt = elim (below_or_not j m) [ inl l ↦ agree j l | inr l ↦ (let same : j ≡ m = omega arith in rw same e) ]
 
-up_to : (n : ℕ) (xs : List Item) (b c : List ℤ) → Stepwise n xs → Agree n b c → Meets n xs b → Meets n xs c → (m : ℕ) → m ≤ made xs → Agree (n + m) b c
-up_to n xs b c s agree h h' zero le = subst (λ (k : ℕ). Agree k b c) (omega arith) agree
-up_to n xs b c s agree h h' (suc m) le =
-    let earlier = up_to n xs b c s agree h h' m (omega arith) in
-    subst (λ (k : ℕ). Agree k b c) (omega arith) (one_more (n + m) b c earlier (settled (n + m) n xs b c (s.each (n + m) (omega arith) (omega arith)) earlier (s.bits b h) (s.bits c h') h h'))
+up_to : (n : ℕ) (xs : List Item) (b c : List ℤ) → Stepwise n xs → AreBits xs b → AreBits xs c → Agree n b c → Meets n xs b → Meets n xs c → (m : ℕ) → m ≤ made xs → Agree (n + m) b c
+up_to n xs b c s t t' agree h h' zero le = subst (λ (k : ℕ). Agree k b c) (omega arith) agree
+up_to n xs b c s t t' agree h h' (suc m) le =
+    let earlier = up_to n xs b c s t t' agree h h' m (omega arith) in
+    subst (λ (k : ℕ). Agree k b c) (omega arith) (one_more (n + m) b c earlier (settled (n + m) n xs b c (s.each (n + m) (omega arith) (omega arith)) earlier t t' h h'))
 
 pub one_extension : OneExtension
-one_extension n xs b c s agree h h' = up_to n xs b c s agree h h' (made xs) (omega arith)
+one_extension n xs b c s t t' agree h h' = up_to n xs b c s t t' agree h h' (made xs) (omega arith)
 
 pub bits_join : (xs ys : List Item) (b : List ℤ) → AreBits xs b → AreBits ys b → AreBits (xs ++ ys) b
 bits_join [] ys b s t = t
@@ -47,7 +47,7 @@ bits_join (Ranged lo hi ∷ xs) ys b s t = bits_join xs ys b s t
 bits_join (Boolean ∷ xs) ys b s t = bits_join xs ys b s t
 bits_join (Posted call ∷ xs) ys b s t = (s.0, bits_join xs ys b s.1 t)
 
-settles_left : (k n : ℕ) (xs ys : List Item) → Settles k n xs → Settles k n (xs ++ ys)
+pub settles_left : (k n : ℕ) (xs ys : List Item) → Settles k n xs → Settles k n (xs ++ ys)
 settles_left k n [] ys s = absurd s
 settles_left k n (Ranged lo hi ∷ xs) ys s = elim s [ inl p ↦ inl p | inr r ↦ inr (settles_left k (n + 1) xs ys r) ]
 settles_left k n (Boolean ∷ xs) ys s = settles_left k (n + 1) xs ys s
@@ -56,7 +56,7 @@ settles_left k n (Posted call ∷ xs) ys s = elim s [ inl f ↦ inl f | inr r �
 settles_at : (k m n : ℕ) (xs : List Item) → m ≡ n → Settles k m xs → Settles k n xs
 settles_at k m n xs e s = subst (λ (i : ℕ). Settles k i xs) e s
 
-settles_right : (k n : ℕ) (xs ys : List Item) → Settles k (n + made xs) ys → Settles k n (xs ++ ys)
+pub settles_right : (k n : ℕ) (xs ys : List Item) → Settles k (n + made xs) ys → Settles k n (xs ++ ys)
 settles_right k n [] ys s = settles_at k (n + 0) n ys (omega arith) s
 settles_right k n (Ranged lo hi ∷ xs) ys s = inr (settles_right k (n + 1) xs ys (settles_at k (n + (1 + made xs)) (n + 1 + made xs) ys (omega arith) s))
 settles_right k n (Boolean ∷ xs) ys s = settles_right k (n + 1) xs ys (settles_at k (n + (1 + made xs)) (n + 1 + made xs) ys (omega arith) s)
@@ -69,32 +69,10 @@ joins n xs ys s t = record {
         | inl l ↦ settles_left k n xs ys (s.each k le l)
         | inr l ↦ settles_right k n xs ys (t.each k l (omega (arith, made-append xs ys)))
       ];
-  bits = λ b h. let parts = meets_split n xs ys b h in bits_join xs ys b (s.bits b parts.0) (t.bits b parts.1);
 }
 
 pub stepwise_nil : (n : ℕ) → Stepwise n []
-stepwise_nil n = record { each = λ k le lt. absurd (omega arith); bits = λ b h. tt }
+stepwise_nil n = record { each = λ k le lt. absurd (omega arith) }
 
-pub stepwise_posted : (n : ℕ) (call : Call) (xs : List Item) → ((b : List ℤ) → NotOfBits b call) → Stepwise n xs → Stepwise n (Posted call ∷ xs)
-stepwise_posted n call xs not s = record { each = λ k le lt. inr (s.each k le (omega arith)); bits = λ b h. (not b, s.bits b h.1) }
-
--- a new variable, and the call that fixes it
-pub stepwise_boolean : (n : ℕ) (call : Call) (xs : List Item) → ((b : List ℤ) → NotOfBits b call) → Fixes n call → Stepwise (n + 1) xs → Stepwise n (Boolean ∷ Posted call ∷ xs)
-stepwise_boolean n call xs not f s = record {
-  each = λ k le lt.
-      elim (below_or_not n k) [
-        | inl l ↦ inr (s.each k (omega arith) (omega arith))
-        | inr l ↦ (let same : k ≡ n = omega arith in inl (rw same f))
-      ];
-  bits = λ b h. (not b, s.bits b h.1.1);
-}
-
-pub stepwise_ranged : (n : ℕ) (lo hi : ℤ) (call : Call) (xs : List Item) → ((b : List ℤ) → NotOfBits b call) → Fixes n call → Stepwise (n + 1) xs → Stepwise n (Ranged lo hi ∷ Posted call ∷ xs)
-stepwise_ranged n lo hi call xs not f s = record {
-  each = λ k le lt.
-      elim (below_or_not n k) [
-        | inl l ↦ inr (inr (s.each k (omega arith) (omega arith)))
-        | inr l ↦ (let same : k ≡ n = omega arith in inr (inl (rw same f)))
-      ];
-  bits = λ b h. (not b, s.bits b h.2.1);
-}
+pub stepwise_posted : (n : ℕ) (call : Call) (xs : List Item) → Stepwise n xs → Stepwise n (Posted call ∷ xs)
+stepwise_posted n call xs s = record { each = λ k le lt. inr (s.each k le (omega arith)) }

@@ -6,3 +6,4 @@ pub mod Partway
 pub mod Solved
 pub mod Stepwise
 pub mod Before
+pub mod Formed

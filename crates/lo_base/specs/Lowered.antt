@@ -1,5 +1,5 @@
 -- The variables and the calls of a list of items (MiniZinc Handbook, "FlatZinc": variable and constraint items).
-use Rattle.std.specs.Prelude.{ℕ, ◌+◌, pos, Bool, true, false, List, [], ◌∷◌, ◌++◌, codes}
+use Rattle.std.specs.Prelude.{ℕ, ◌+◌, pos, Bool, true, false, None, List, [], ◌∷◌, ◌++◌, codes}
 use Rattle.std.specs.Fmt.{decimal}
 use Rattle.xf_num.specs.Span.{Bounds}
 use Rattle.fz_model.specs.declared.model.Call.{Call}
@@ -8,7 +8,7 @@ use Rattle.lo_base.specs.Item.{Item, Ranged, Boolean, Posted}
 
 -- the auxiliary with this number
 abbrev pub auxiliary : ℕ → Bool → Bounds → FzVar
-auxiliary k boolean span = record { name = codes "a_" ++ decimal k; boolean = boolean; domain = span ∷ []; shown = false }
+auxiliary k boolean span = record { name = codes "a_" ++ decimal k; boolean = boolean; domain = span ∷ []; equal = None; shown = false }
 
 -- the variables that the items make, the first auxiliary of which has the number k
 abbrev pub vars_of : ℕ → List Item → List FzVar

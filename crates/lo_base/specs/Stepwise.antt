@@ -18,14 +18,14 @@ AreBits (Ranged lo hi ∷ xs) b = AreBits xs b
 AreBits (Boolean ∷ xs) b = AreBits xs b
 AreBits (Posted call ∷ xs) b = NotOfBits b call × AreBits xs b
 
--- each variable that the items make is settled by one of them, and truth values are 0 or 1 where the items are met
+-- each variable that the items make is settled by one of them: a fact about the domains and the calls alone
 pub record Stepwise (n : ℕ) (xs : List Item) : Type 0 where
   pub each : (k : ℕ) → n ≤ k → k < n + made xs → Settles k n xs
-  pub bits : (b : List ℤ) → Meets n xs b → AreBits xs b
 
--- the law: two lists of values that meet the items and agree before n agree on all that the items make
+-- the law: two lists of values that meet the items, in which the truth values are 0 or 1, and that agree before n agree
+-- on all that the items make
 abbrev pub OneExtension : Type 0
-OneExtension = (n : ℕ) (xs : List Item) (b c : List ℤ) → Stepwise n xs → Agree n b c → Meets n xs b → Meets n xs c → Agree (n + made xs) b c
+OneExtension = (n : ℕ) (xs : List Item) (b c : List ℤ) → Stepwise n xs → AreBits xs b → AreBits xs c → Agree n b c → Meets n xs b → Meets n xs c → Agree (n + made xs) b c
 
 -- two stepwise lists in a row are one
 abbrev pub Joins : Type 0

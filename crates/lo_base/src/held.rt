@@ -70,12 +70,13 @@ impl Held {
         }
     }
 
-    /// The model of the variables and calls that it keeps.
+    /// The model of the variables and calls that it keeps, which has no output array.
     pub fn finish(self, goal: Goal) -> Model
-        ensures { result ≡ record { vars = self.vars; calls = self.calls; goal = goal } }
+        ensures { result ≡ record { vars = self.vars; outputs = []; calls = self.calls; goal = goal } }
     {
         Model {
             vars: self.vars,
+            outputs: Row::new(self.alloc),
             calls: self.calls,
             goal,
         }
@@ -105,11 +106,12 @@ pub fn auxiliary(alloc: Global, number: u64, boolean: bool, span: Span) -> Resul
     ensures { IfOk result (λ var. var ≡ auxiliary number boolean span) }
 {
     let name = auxiliary_name(alloc, number)?;
-    let domain = Domain::of(span, alloc)?;
+    let domain = Domain::of(alloc, span)?;
     Ok(FzVar {
         name,
         boolean,
         domain,
+        equal: None,
         shown: false,
     })
 }
@@ -137,12 +139,13 @@ mod tests {
     {
         let mut name = Row::new(alloc);
         name.extend(b"v_x")?;
-        let domain = Domain::of(Span::new(7, 9).unwrap(), alloc)?;
+        let domain = Domain::of(alloc, Span::new(7, 9).unwrap())?;
         let mut vars = Row::new(alloc);
         vars.push(FzVar {
             name,
             boolean: false,
             domain,
+            equal: None,
             shown: true,
         })?;
         Ok(vars)

@@ -4,8 +4,9 @@
 //! `grew` and `began` say what was appended, as one list of items in the order in which they came
 //! (`specs/Item.antt`, `specs/Emit.antt`). `Held` is the `Emit` that keeps its items, and makes a model of them.
 //! `specs/Solved.antt` says when values meet items and what items mean, `specs/Before.antt` which variables calls
-//! speak of, and `specs/Stepwise.antt` when the values of the new variables follow from those before;
-//! `one_extension` and `joins` are the laws on that.
+//! speak of, `specs/Stepwise.antt` when the values of the new variables follow from those before, and
+//! `specs/Formed.antt` when domains are ranges of small integers and calls have arguments of the right kinds;
+//! `one_extension`, `joins` and `formed_bits` are the laws on that.
 #![tactic(auto)]
 
 mod emit;
@@ -14,4 +15,4 @@ mod laws;
 
 pub use emit::{Emit, EmitStop};
 pub use held::{Held, auxiliary, truth_values};
-pub use laws::{joins, one_extension};
+pub use laws::{formed_bits, joins, one_extension};

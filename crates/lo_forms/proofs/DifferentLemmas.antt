@@ -1,138 +1,84 @@
--- What the calls of `allDifferent` mean, and how much they are.
-use Rattle.std.proofs.Common.{◌≡◌, ◌≢◌, ℕ, zero, suc, ◌+◌, ◌*◌, ◌<◌, ◌≤◌, ℤ, List, [], ◌∷◌, ◌++◌, length, map, sum, refl, ap, sym, subst, ◌∙◌, arith}
-use Rattle.std.proofs.lemmas.List.{length-append}
-use Rattle.std.proofs.lemmas.List.Kept.{AllPairs-cons}
-use Rattle.std.specs.List.{All}
-use Rattle.std.proofs.lemmas.List.Sums.{sum_by-append}
-use Rattle.fz_model.specs.declared.model.Arg.{fold-roll-Arg}
-use Rattle.fz_model.specs.declared.model.Arg.TheOpen.{Arg-F}
-use Rattle.fz_model.specs.declared.model.Arg.TheVariants as arg
-use Rattle.fz_model.specs.Calls.{ne_call}
-use Rattle.fz_model.specs.Fixing.{NotOfBits}
-use Rattle.fz_model.specs.Meaning.{at}
-use Rattle.fz_model.specs.Size.{leaves_step, leaves_of, call_leaves}
-use Rattle.fz_model.proofs.Calls.{ne_says, ne_met}
-use Rattle.fz_model.proofs.Fixing.{before-Var}
-use Rattle.xs_model.specs.Instance.{AreDifferent}
-use Rattle.lo_base.specs.Before.{AreCallsBefore}
-use Rattle.lo_base.specs.Item.{Item, Ranged, Boolean, Posted, made}
+-- What the calls of `allDifferent` mean.
+use Rattle.std.proofs.Common.{◌≡◌, ◌≢◌, ℕ, suc, ◌+◌, ◌*◌, ◌≤◌, ℤ, List, [], ◌∷◌, length, map, refl, arith}
+use Rattle.fz_model.specs.Size.{call_leaves}
+use Rattle.xs_model.specs.Comparing.{AreDifferent}
+use Rattle.lo_base.specs.Item.{Item, made}
 use Rattle.lo_base.specs.Lowered.{calls_of}
-use Rattle.lo_base.specs.Solved.{Meets, Extends}
-use Rattle.lo_base.specs.Stepwise.{Stepwise}
-use Rattle.lo_base.proofs.Before.{joined_before}
-use Rattle.lo_base.proofs.Solving.{Below, below_longer, at_front, map_at_front, made-append, meets_at, meets_split, extends_nil, extends_posted, extends_join}
-use Rattle.lo_base.proofs.Steps.{joins, stepwise_nil, stepwise_posted}
-use Rattle.lo_forms.specs.Different.{differ_from, low_different}
-use Rattle.lo_forms.specs.Laws.{AreBelow, DifferentMeans, DifferentStepwise, DifferentBefore, DifferentSize}
+use Rattle.lo_base.specs.Stepwise.{AreBits}
+use Rattle.lo_base.proofs.Solving.{made-append}
+use Rattle.lo_base.proofs.Steps.{bits_join}
+use Rattle.lo_emit.specs.declared.compare.Relation.TheVariants.{Ne}
+use Rattle.lo_emit.specs.declared.term.Term.{Term}
+use Rattle.lo_emit.specs.Compare.{compare_call}
+use Rattle.lo_emit.specs.Loops.{for_all, Pairwise}
+use Rattle.lo_rules.specs.Formed.{IsInteger}
+use Rattle.lo_rules.specs.Rule.{leaves, num, Always, Before}
+use Rattle.lo_rules.proofs.Integers.{compare_leaves, rule_compare}
+use Rattle.lo_rules.proofs.Loops.{rules_for_pairs}
+use Rattle.lo_rules.proofs.Making.{integer_more}
+use Rattle.lo_rules.proofs.MakingConditions.{formed_relation}
+use Rattle.lo_rules.proofs.MakingLoops.{formed_for_pairs}
+use Rattle.lo_rules.proofs.Pairs.{pairwise_mapped, pairwise_unmapped, pairwise_of_places, places_of_pairwise}
+use Rattle.lo_rules.proofs.Rules.{sum_cons, leaves-append, rule_as, rules_lower, steady_numbers}
+use Rattle.lo_rules.proofs.Terms.{before_more}
+use Rattle.lo_forms.specs.Different.{differ, low_different}
+use Rattle.lo_forms.specs.Laws.{DifferentLowered}
 
-abbrev Apart : ℤ → List ℤ → Type 0
-Apart v ws = All (λ w. v ≢ w) ws
+room_for_squares : (k : ℕ) → (k * k) * 2 ≤ 64 * ((1 + k) * (1 + k))
+room_for_squares k = grind arith
 
-head_apart : (v : ℤ) (ws : List ℤ) → AreDifferent (v ∷ ws) → Apart v ws
-head_apart v ws h j d lt = h zero (suc j) d (omega arith) (omega arith)
+pub different_lowered : DifferentLowered
+different_lowered n ts before =
+    let w : ℕ = 64 * ((1 + length ts) * (1 + length ts)) in
+    rules_lower Always Always (λ a. AreDifferent (map (num a) ts)) _ n (low_different n ts) w (λ a len x d. tt) (steady_numbers AreDifferent n ts before)
+    (λ bs here kinds.
+    formed_for_pairs bs (IsInteger bs) differ (λ m cs x y len keeps hx hy. (formed_relation cs Ne x y (integer_more bs cs keeps x hx) (integer_more bs cs keeps y hy), tt)) n bs ts here (λ v t e. e) kinds)
+    (rule_as Always Always Always Always Always (λ b. Pairwise (λ x y. num b x ≢ num b y) ts) (λ b. AreDifferent (map (num b) ts)) n (low_different n ts) ((length ts * length ts) * 2) w (λ b d. d) (λ b d g. g)
+    (λ b d g p. places_of_pairwise (λ v w. v ≢ w) (map (num b) ts) (pairwise_mapped (num b) (λ v w. v ≢ w) ts p))
+    (λ b x d g p. pairwise_unmapped (num b) (λ v w. v ≢ w) ts (pairwise_of_places (λ v w. v ≢ w) (map (num b) ts) p)) (room_for_squares (length ts))
+    (rules_for_pairs Always Always (Before n) n 2 differ (λ b x y. num b x ≢ num b y) (λ m x y le hx hy. rule_compare Always Always m Ne x y (before_more n m x le hx) (before_more n m y le hy)) n ts (omega arith) before))
 
-tail_different : (v : ℤ) (ws : List ℤ) → AreDifferent (v ∷ ws) → AreDifferent ws
-tail_different v ws h i j d lt within = h (suc i) (suc j) d (omega arith) (omega arith)
+-- how much the calls are, and of which kind, wherever the terms stand
 
-apart_tail : (v w : ℤ) (ws : List ℤ) → Apart v (w ∷ ws) → Apart v ws
-apart_tail v w ws h j d lt = h (suc j) d (omega arith)
+from_makes : (n : ℕ) (t : Term) (ys : List Term) → made (for_all (λ m y. differ m t y) n ys) ≡ 0
+from_makes n t [] = refl
+from_makes n t (y ∷ ys) = let rest = from_makes (n + made (differ n t y)) t ys in omega (arith, rest)
 
-from_says : (n x : ℕ) (ys : List ℕ) (b : List ℤ) → Meets n (differ_from x ys) b → Apart (at b x) (map (at b) ys)
-from_says n x [] b h j d lt = absurd (omega arith)
-from_says n x (y ∷ ys) b h zero d lt = ne_says b x y h.0
-from_says n x (y ∷ ys) b h (suc j) d lt = from_says n x ys b h.1 j d (omega arith)
+makes_none : (n : ℕ) (ts : List Term) → made (low_different n ts) ≡ 0
+makes_none n [] = refl
+makes_none n (t ∷ ts) =
+    let first : List Item = for_all (λ m y. differ m t y) n ts in
+    omega (arith, made-append first (low_different (n + made first) ts), from_makes n t ts, makes_none (n + made first) ts)
 
-made-differ_from : (x : ℕ) (ys : List ℕ) → made (differ_from x ys) ≡ 0
-made-differ_from x [] = refl
-made-differ_from x (y ∷ ys) = omega (arith, made-differ_from x ys)
+from_leaves : (n : ℕ) (t : Term) (ys : List Term) → leaves (for_all (λ m y. differ m t y) n ys) ≡ 2 * length ys
+from_leaves n t [] = refl
+from_leaves n t (y ∷ ys) =
+    let rest : List Item = for_all (λ m y. differ m t y) (n + made (differ n t y)) ys in
+    omega (arith, from_leaves (n + made (differ n t y)) t ys, compare_leaves Ne t y, sum_cons (call_leaves (compare_call Ne t y)) (map call_leaves (calls_of rest)))
 
-pub made-low_different : (xs : List ℕ) → made (low_different xs) ≡ 0
-made-low_different [] = refl
-made-low_different (x ∷ xs) = omega (arith, made-append (differ_from x xs) (low_different xs), made-differ_from x xs, made-low_different xs)
-
-different_says : (n : ℕ) (xs : List ℕ) (b : List ℤ) → Meets n (low_different xs) b → AreDifferent (map (at b) xs)
-different_says n [] b h = λ i j d lt within. absurd (omega arith)
-different_says n (x ∷ xs) b h =
-    let r = meets_split n (differ_from x xs) (low_different xs) b h in
-    AllPairs-cons (λ v w. v ≢ w) (at b x) (map (at b) xs) (from_says n x xs b r.0)
-    (different_says n xs b (meets_at _ _ (low_different xs) b (ap (λ k. n + k) (made-differ_from x xs) ∙ (omega arith)) r.1))
-
-from_extends : (x : ℕ) (ys : List ℕ) (a : List ℤ) → x < length a → Below (length a) ys → Apart (at a x) (map (at a) ys) → Extends a (differ_from x ys)
-from_extends x [] a xl below h = extends_nil a
-from_extends x (y ∷ ys) a xl below h =
-    extends_posted a (ne_call x y) (differ_from x ys)
-    (λ d. ne_met (a ++ d) x y (λ same. h zero (at a x) (omega arith) (sym (at_front a d x xl) ∙ same ∙ at_front a d y below.0)))
-    (from_extends x ys a xl below.1 (apart_tail (at a x) (at a y) (map (at a) ys) h))
-
-different_extends : (xs : List ℕ) (a : List ℤ) → Below (length a) xs → AreDifferent (map (at a) xs) → Extends a (low_different xs)
-different_extends [] a below h = extends_nil a
-different_extends (x ∷ xs) a below h =
-    extends_join a (differ_from x xs) (low_different xs)
-    (from_extends x xs a below.0 below.1 (head_apart (at a x) (map (at a) xs) h))
-    (λ c many met. different_extends xs (a ++ c) (below_longer _ _ xs (omega (arith, length-append a c)) below.1)
-    (subst AreDifferent (sym (map_at_front a c xs below.1)) (tail_different (at a x) (map (at a) xs) h)))
-
-pub different_means : DifferentMeans
-different_means n xs below = record {
-  sound = λ a c len room h. subst AreDifferent (map_at_front a c xs (below_longer n (length a) xs (omega arith) below)) (different_says n xs (a ++ c) h);
-  complete = λ a len holds. different_extends xs a (below_longer n (length a) xs (omega arith) below) holds;
-}
-
-no_truth_values : (b : List ℤ) (x y : ℕ) → NotOfBits b (ne_call x y)
-no_truth_values b x y e = absurd (cc e)
-
-from_stepwise : (n x : ℕ) (ys : List ℕ) → Stepwise n (differ_from x ys)
-from_stepwise n x [] = stepwise_nil n
-from_stepwise n x (y ∷ ys) = stepwise_posted n (ne_call x y) (differ_from x ys) (λ b. no_truth_values b x y) (from_stepwise n x ys)
-
-pub different_stepwise : DifferentStepwise
-different_stepwise n [] = stepwise_nil n
-different_stepwise n (x ∷ xs) = joins n (differ_from x xs) (low_different xs) (from_stepwise n x xs) (different_stepwise (n + made (differ_from x xs)) xs)
-
-differ_before : (n x : ℕ) (ys : List ℕ) → x < n → AreBelow n ys → AreCallsBefore n (calls_of (differ_from x ys))
-differ_before n x [] lt h = tt
-differ_before n x (y ∷ ys) lt h = ((before-Var n x lt, (before-Var n y h.0, tt)), differ_before n x ys lt h.1)
-
-pub different_before : DifferentBefore
-different_before n [] h = tt
-different_before n (x ∷ xs) h = joined_before n (differ_from x xs) (low_different xs) (differ_before n x xs h.0 h.1) (different_before n xs h.1)
-
--- the leaves of the calls that the items post
-abbrev pub leaves : List Item → ℕ
-leaves xs = sum (map call_leaves (calls_of xs))
-
-sum_cons : (x : ℕ) (xs : List ℕ) → sum (x ∷ xs) ≡ x + sum xs
-sum_cons x xs = let h : sum (x ∷ xs) ≡ (0 + x) + sum xs = sum_by-append (λ n. n) (x ∷ []) xs in omega (arith, h)
-
-pub leaves-append : (xs ys : List Item) → leaves (xs ++ ys) ≡ leaves xs + leaves ys
-leaves-append [] ys = omega arith
-leaves-append (Ranged lo hi ∷ xs) ys = leaves-append xs ys
-leaves-append (Boolean ∷ xs) ys = leaves-append xs ys
-leaves-append (Posted call ∷ xs) ys =
-    omega (arith, leaves-append xs ys, sum_cons (call_leaves call) (map call_leaves (calls_of (xs ++ ys))), sum_cons (call_leaves call) (map call_leaves (calls_of xs)))
-
-leaves-Var : (k : ℕ) → leaves_of (arg.Var k) ≡ 1
-leaves-Var k = ap leaves_of (sym (arg.rolls-Var k)) ∙ fold-roll-Arg ℕ leaves_step (Arg-F.Var k)
-
-leaves-ne : (x y : ℕ) → call_leaves (ne_call x y) ≡ 2
-leaves-ne x y = omega (arith, leaves-Var x, leaves-Var y, sum_cons (leaves_of (arg.Var x)) (leaves_of (arg.Var y) ∷ []), sum_cons (leaves_of (arg.Var y)) [])
-
-leaves-differ_from : (x : ℕ) (ys : List ℕ) → leaves (differ_from x ys) ≡ 2 * length ys
-leaves-differ_from x [] = refl
-leaves-differ_from x (y ∷ ys) = omega (arith, leaves-differ_from x ys, leaves-ne x y, sum_cons (call_leaves (ne_call x y)) (map call_leaves (calls_of (differ_from x ys))))
-
--- two leaves for each later variable
 square_more : (k m : ℕ) → m ≤ 2 * (k * k) → 2 * k + m ≤ 2 * (suc k * suc k)
 square_more k m h = grind arith
 
-leaves_at_most : (xs : List ℕ) → leaves (low_different xs) ≤ 2 * (length xs * length xs)
-leaves_at_most [] = omega arith
-leaves_at_most (x ∷ xs) =
-    let both = square_more (length xs) (leaves (low_different xs)) (leaves_at_most xs) in
-    omega (arith, both, leaves-append (differ_from x xs) (low_different xs), leaves-differ_from x xs)
+all_leaves : (n : ℕ) (ts : List Term) → leaves (low_different n ts) ≤ 2 * (length ts * length ts)
+all_leaves n [] = omega arith
+all_leaves n (t ∷ ts) =
+    let first : List Item = for_all (λ m y. differ m t y) n ts in
+    let rest : List Item = low_different (n + made first) ts in
+    let both = square_more (length ts) (leaves rest) (all_leaves (n + made first) ts) in
+    omega (arith, both, leaves-append first rest, from_leaves n t ts)
 
-room_for_squares : (k m c : ℕ) → m ≡ 0 → c ≤ 2 * (k * k) → m + c ≤ 64 * ((1 + k) * (1 + k))
-room_for_squares k m c e h = grind arith
+room_for_both : (k m c : ℕ) → m ≡ 0 → c ≤ 2 * (k * k) → m + c ≤ 64 * ((1 + k) * (1 + k))
+room_for_both k m c e h = grind arith
 
-pub different_size : DifferentSize
-different_size list = room_for_squares (length list) _ _ (made-low_different list) (leaves_at_most list)
+pub different_size : (n : ℕ) (ts : List Term) → made (low_different n ts) + leaves (low_different n ts) ≤ 64 * ((1 + length ts) * (1 + length ts))
+different_size n ts = room_for_both (length ts) _ _ (makes_none n ts) (all_leaves n ts)
+
+from_bits : (n : ℕ) (t : Term) (ys : List Term) (b : List ℤ) → AreBits (for_all (λ m y. differ m t y) n ys) b
+from_bits n t [] b = tt
+from_bits n t (y ∷ ys) b = ((λ e. absurd (cc e)), from_bits (n + made (differ n t y)) t ys b)
+
+pub different_bits : (n : ℕ) (ts : List Term) (b : List ℤ) → AreBits (low_different n ts) b
+different_bits n [] b = tt
+different_bits n (t ∷ ts) b =
+    let first : List Item = for_all (λ m y. differ m t y) n ts in
+    bits_join first (low_different (n + made first) ts) b (from_bits n t ts b) (different_bits (n + made first) ts b)

@@ -1,3 +1,2 @@
-pub mod Constraint
 pub mod Different
 pub mod Laws

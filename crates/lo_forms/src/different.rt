@@ -1,36 +1,53 @@
-//! `allDifferent` of one list: each two of its variables differ.
+//! `allDifferent` of one list: each two of its members differ.
 
-ghost use Rattle.std.specs.Prelude.{◌≡◌, OnOk, OnErr, IsErrOf};
+ghost use Rattle.std.specs.Prelude.{◌≡◌, ◌+◌, OnOk, OnErr, IsErrOf};
 ghost use Rattle.xf_text.specs.Outside.{Rose};
-ghost use Rattle.lo_forms.specs.Different.{differ_from, low_different};
+ghost use Rattle.lo_base.specs.Item.{made};
+ghost use Rattle.lo_emit.specs.Loops.{for_all, for_pairs};
+ghost use Rattle.lo_forms.specs.Different.{differ, low_different};
 
-use fz_model::int_ne;
 use lo_base::{Emit, EmitStop};
+use lo_emit::{Relation, Term, compare_call};
 use std::alloc::Global;
 
-/// Variable `x` differs from each of the others.
-fn differ_from<E: Emit>(alloc: Global, x: u32, others: &[u32], out: &mut E) -> Result<(), EmitStop>
-    ensures ok { OnOk result (E.grew out.old out.new (differ_from x others.now)) }
-    ensures count { OnOk result (E.count out.new ≡ E.count out.old) }
-    ensures stopped { OnErr result (E.began out.old out.new (differ_from x others.now)) }
+/// The first differs from each of the others.
+fn differ_from<E: Emit>(
+    alloc: Global,
+    first: Term,
+    others: &[Term],
+    out: &mut E,
+) -> Result<(), EmitStop>
+    ensures ok { OnOk result (E.grew out.old out.new (for_all (λ n y. differ n first y) (E.count out.old) others.now)) }
+    ensures count { OnOk result (E.count out.new ≡ E.count out.old + made (for_all (λ n y. differ n first y) (E.count out.old) others.now)) }
+    ensures stopped { OnErr result (E.began out.old out.new (for_all (λ n y. differ n first y) (E.count out.old) others.now)) }
     ensures cause { IsErrOf result EmitStop.Failed → Rose (E.faults out.old) (E.faults out.new) }
 {
-    for y in others {
-        out.post(int_ne(alloc, u64::from(x), u64::from(*y))?)?;
+    for other in others {
+        out.post(compare_call(alloc, Relation::Ne, first, *other)?)?;
     }
     Ok(())
 }
 
-/// Appends the calls that say that each two of the variables differ. On an `Err` it began them.
-pub fn lower_different<E: Emit>(alloc: Global, list: &[u32], out: &mut E) -> Result<(), EmitStop>
-    ensures ok { OnOk result (E.grew out.old out.new (low_different list.now)) }
-    ensures count { OnOk result (E.count out.new ≡ E.count out.old) }
-    ensures stopped { OnErr result (E.began out.old out.new (low_different list.now)) }
+/// Each two of the terms differ.
+fn differ_all<E: Emit>(alloc: Global, terms: &[Term], out: &mut E) -> Result<(), EmitStop>
+    ensures ok { OnOk result (E.grew out.old out.new (for_pairs differ (E.count out.old) terms.now)) }
+    ensures stopped { OnErr result (E.began out.old out.new (for_pairs differ (E.count out.old) terms.now)) }
     ensures cause { IsErrOf result EmitStop.Failed → Rose (E.faults out.old) (E.faults out.new) }
 {
-    for i in 0..list.len() {
-        differ_from(alloc, list[i], &list[i + 1..], out)?;
+    for i in 0..terms.len() {
+        differ_from(alloc, terms[i], &terms[i + 1..], out)?;
     }
+    Ok(())
+}
+
+/// Appends the calls that say that each two of the terms differ. On an `Err` it began them.
+pub fn lower_different<E: Emit>(alloc: Global, terms: &[Term], out: &mut E) -> Result<(), EmitStop>
+    ensures ok { OnOk result (E.grew out.old out.new (low_different (E.count out.old) terms.now)) }
+    ensures count { OnOk result (E.count out.new ≡ E.count out.old + made (low_different (E.count out.old) terms.now)) }
+    ensures stopped { OnErr result (E.began out.old out.new (low_different (E.count out.old) terms.now)) }
+    ensures cause { IsErrOf result EmitStop.Failed → Rose (E.faults out.old) (E.faults out.new) }
+{
+    differ_all(alloc, terms, out)?;
     Ok(())
 }
 
@@ -39,6 +56,7 @@ mod tests {
     use super::*;
     use fz_model::{Arg, Call, Goal};
     use lo_base::Held;
+    use lo_emit::variables_of;
     use std::test::Fail;
     use xf_num::Row;
 
@@ -64,7 +82,8 @@ mod tests {
         ];
         for (list, wanted) in tables {
             let mut held = Held::new(rt.alloc(), Row::new(rt.alloc()));
-            lower_different(rt.alloc(), list, &mut held)?;
+            let terms = variables_of(rt.alloc(), list)?;
+            lower_different(rt.alloc(), terms.as_slice(), &mut held)?;
             let model = held.finish(Goal::Satisfy);
             assert_eq!(rt; model.vars.len(), 0);
             assert_eq!(rt; model.calls.len(), wanted.len());

@@ -20,26 +20,26 @@ read Plain (b ∷ bs) = if b == 95 then read Mark bs else b ∷ read Plain bs
 read Mark (b ∷ bs) = if b == 95 then 95 ∷ read Plain bs else 91 ∷ b ∷ read Inside bs
 read Inside (b ∷ bs) = if b == 95 then 93 ∷ 91 ∷ read Inside bs else b ∷ read Inside bs
 
-either : (t : Bool) → (t ≡ true) ⊎ (t ≡ false)
+pub either : (t : Bool) → (t ≡ true) ⊎ (t ≡ false)
 either true = inl refl
 either false = inr refl
 
-both : (s t : Bool) → (s && t) ≡ true → (s ≡ true) × (t ≡ true)
+pub both : (s t : Bool) → (s && t) ≡ true → (s ≡ true) × (t ≡ true)
 both true true h = (refl, refl)
 both true false h = (refl, h)
 both false t h = cc
 
 -- where a test tells two bytes apart, they differ
-apart : (p : ℕ → Bool) (b k : ℕ) → p b ≡ true → p k ≡ false → (b == k) ≡ false
+pub apart : (p : ℕ → Bool) (b k : ℕ) → p b ≡ true → p k ≡ false → (b == k) ≡ false
 apart p b k one other = ⊎_elim (λ e. let same : b ≡ k = eqb-true b k e in let wrong : p k ≡ true = subst (λ (x : ℕ). p x ≡ true) same one in cc) (λ t. t) (either (b == k))
 
-same_byte : (b : ℕ) → (b == 95) ≡ false → (b == 91) ≡ false → (b == 93) ≡ false → spelled_byte b ≡ b ∷ []
+pub same_byte : (b : ℕ) → (b == 95) ≡ false → (b == 91) ≡ false → (b == 93) ≡ false → spelled_byte b ≡ b ∷ []
 same_byte b e f g = rw (e, f, g) refl
 
 digit_byte : (b : ℕ) → is_digit b ≡ true → spelled_byte b ≡ b ∷ []
 digit_byte b h = same_byte b (apart is_digit b 95 h refl) (apart is_digit b 91 h refl) (apart is_digit b 93 h refl)
 
-digits_same : (ds : List ℕ) → list_all is_digit ds ≡ true → flat_map spelled_byte ds ≡ ds
+pub digits_same : (ds : List ℕ) → list_all is_digit ds ≡ true → flat_map spelled_byte ds ≡ ds
 digits_same [] h = refl
 digits_same (d ∷ ds) h =
     let p = both (is_digit d) (list_all is_digit ds) h in
@@ -67,15 +67,15 @@ read_digits (d ∷ ds) rest h =
     let no : (d == 95) ≡ false = apart is_digit d 95 p.0 refl in
     rw no (ap (λ xs. d ∷ xs) (read_digits ds rest p.1))
 
-abbrev brackets : List (List ℕ) → List ℕ
+abbrev pub brackets : List (List ℕ) → List ℕ
 brackets indices = flat_map (λ ds. codes "[" ++ (ds ++ codes "]")) indices
 
-abbrev marks : List (List ℕ) → List ℕ
+abbrev pub marks : List (List ℕ) → List ℕ
 marks [] = []
 marks (ds ∷ indices) = 95 ∷ (ds ++ marks indices)
 
 -- brackets are spelled as a mark before each index
-marked : (indices : List (List ℕ)) → AllByRecursion IsIndex indices → flat_map spelled_byte (brackets indices) ≡ marks indices
+pub marked : (indices : List (List ℕ)) → AllByRecursion IsIndex indices → flat_map spelled_byte (brackets indices) ≡ marks indices
 marked [] h = refl
 marked (ds ∷ indices) h =
     flat_map-append spelled_byte (91 ∷ (ds ++ 93 ∷ [])) (brackets indices)
@@ -104,7 +104,7 @@ read_brackets (ds ∷ indices) h =
 letter_word : (b : ℕ) → is_letter b ≡ true → is_word b ≡ true
 letter_word b h = rw h refl
 
-all_word : (name : List ℕ) → IsIdentifier name → list_all is_word name ≡ true
+pub all_word : (name : List ℕ) → IsIdentifier name → list_all is_word name ≡ true
 all_word [] h = absurd h
 all_word (b ∷ bs) h = let first : is_word b ≡ true = letter_word b h.0 in rw (first, h.1) refl
 

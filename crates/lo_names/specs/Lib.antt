@@ -1,3 +1,4 @@
 pub mod Indices
+pub mod LowNames
 pub mod Shown
 pub mod Spelling

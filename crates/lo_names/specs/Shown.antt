@@ -1,5 +1,5 @@
 -- The FlatZinc variables of declarations.
-use Rattle.std.specs.Prelude.{◌≡◌, true, false, List, [], ◌∷◌, ℕ, map}
+use Rattle.std.specs.Prelude.{◌≡◌, true, false, None, List, [], ◌∷◌, ℕ, map}
 use Rattle.std.specs.List.{AllByRecursion}
 use Rattle.xf_num.specs.Span.{Bounds}
 use Rattle.xs_model.specs.declared.decl.Decl.{Decl}
@@ -10,7 +10,7 @@ use Rattle.lo_names.specs.Spelling.{spelled}
 
 -- the variable of a direct word and a domain, which solvers print
 abbrev pub shown_var : List ℕ → List Bounds → FzVar
-shown_var word domain = record { name = spelled word; boolean = false; domain = domain; shown = true }
+shown_var word domain = record { name = spelled word; boolean = false; domain = domain; equal = None; shown = true }
 
 -- one variable for each word and the domain beside it
 abbrev pub shown_each : List (List ℕ) → List (List Bounds) → List FzVar

@@ -2,6 +2,7 @@
 
 ghost use Rattle.std.specs.Prelude.{◌≡◌, ◌++◌, IfOk, OnOk};
 ghost use Rattle.std.specs.List.{flat_map};
+ghost use Rattle.lo_names.specs.LowNames.{AreLowNames};
 ghost use Rattle.lo_names.specs.Spelling.{spelled, spelled_byte, IsInjectiveOnWords, IsApart};
 
 use std::alloc::Global;
@@ -12,6 +13,12 @@ use xf_num::{NoMemory, Row, Text};
 pub fn distinct_names()
     ensures injective { IsInjectiveOnWords }
     ensures apart { IsApart }
+{}
+
+/// The names of direct words that differ, and behind them those of auxiliaries, are identifiers and no words of the
+/// grammar, and they differ.
+pub fn low_names()
+    ensures { AreLowNames }
 {}
 
 /// The FlatZinc name of a direct word.

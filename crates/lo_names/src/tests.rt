@@ -21,7 +21,7 @@ fn text(alloc: Global, bytes: &[u8]) -> Result<Text, NoMemory>
 fn bit(alloc: Global) -> Result<Domain, NoMemory>
     ensures { IfOk result (λ d. d ≡ record { lo = pos 0; hi = pos 1 } ∷ []) }
 {
-    Domain::of(Span::new(0, 1).unwrap(), alloc)
+    Domain::of(alloc, Span::new(0, 1).unwrap())
 }
 
 // Four cells, the second of which is undefined.

@@ -55,6 +55,7 @@ fn push_var(alloc: Global, word: &[u8], domain: &Domain, vars: &mut FzVars) -> R
         name: spell(alloc, word)?,
         boolean: false,
         domain: domain.copy(alloc)?,
+        equal: None,
         shown: true,
     })?;
     Ok(())

@@ -1,6 +1,6 @@
 -- Expressions that may be stated, put together from their leaves, and an accepted instance; for tests.
 use Rattle.std.proofs.Common.{◌≡◌, ℕ, ◌<◌, ◌≤◌, ℤ, [], ◌∷◌, ◌++◌, List, length, true, false, refl, sym, ◌∙◌, ap, subst, arith, rules}
-use Rattle.std.specs.Prelude.{codes, Ok}
+use Rattle.std.specs.Prelude.{codes, Ok, None}
 use Rattle.std.proofs.lemmas.List.{length-append}
 use Rattle.xf_num.specs.Span.{Bounds, magnitude_of}
 use Rattle.xs_model.specs.Accepted.{IsAccepted, IsMeasured, IsSoundConstraint}
@@ -8,6 +8,8 @@ use Rattle.xs_model.specs.Bounds.{limited, exactly, operand, all_ok, and_then, n
 use Rattle.xs_model.specs.Formed.{HasSmallInteger, HasSmallIntegers, nodes}
 use Rattle.xs_model.specs.Magnitude.{Weight, weight, weighed, total_of, bounds_below, nodes_below}
 use Rattle.xs_model.specs.Shape.{IsCount, ArePlaced, IsShaped, HasShape, is_set, is_set_layer, is_set_operator}
+use Rattle.xs_model.proofs.FormLemmas.{expression_formed}
+use Rattle.xs_expr.proofs.Nodes.{mag-expression}
 use Rattle.xs_model.specs.Sound.{IsSmall, magnitudes}
 use Rattle.xs_model.specs.declared.decl.Decl.TheVariants.{One}
 use Rattle.xs_model.specs.declared.expr.Op.{Op}
@@ -99,13 +101,14 @@ module _ (ss : List Bounds) where
 
   pub sample_sound : (e : Expr) (b : Bounds) (ms : List ℕ) → Sample ss e b ms → is_truth b ≡ true → IsSoundConstraint ss (Intension e)
   sample_sound e b ms s truth = record {
-    formed = record { shaped = s.shaped; no_set = s.plain; variables = s.variables; small = s.small };
+    formed = expression_formed (length ss) e (record { shaped = s.shaped; no_set = s.plain; variables = s.variables; small = s.small });
     faultless = record { span = b; bounded = sym (weighed-bounds ss e) ∙ ap (λ w. w.bounds) s.weighs; truth = truth };
-    measured = tt;
+    measured = λ h. cc;
+    built = refl;
   }
 
   pub sample_measured : (e : Expr) (b : Bounds) (ms : List ℕ) → Sample ss e b ms → total_of ms ≤ magnitudes → IsMeasured ss (Intension e)
-  sample_measured e b ms s le = subst (λ w. total_of w.nodes ≤ magnitudes) (sym s.weighs) le
+  sample_measured e b ms s le = subst (λ m. m ≤ magnitudes) (sym (mag-expression ss e)) (subst (λ w. total_of w.nodes ≤ magnitudes) (sym s.weighs) le)
 
 -- the variable x of 0..1, which holds
 
@@ -113,15 +116,16 @@ abbrev bits : List Bounds
 bits = truths ∷ []
 
 abbrev pub one_bit : Instance
-one_bit = record { decls = One (codes "x") bits ∷ []; constraints = Intension (Var 0) ∷ [] }
+one_bit = record { decls = One (codes "x") bits ∷ []; constraints = Intension (Var 0) ∷ []; objective = None }
 
 holds : Sample bits (Var 0) truths (1 ∷ [])
 holds = variable bits 0 truths (omega arith) refl
 
 pub one_bit_accepted : IsAccepted one_bit
 one_bit_accepted = record {
-  sound = record { distinct = search rules; decls = search rules; few = omega arith; constraints = (sample_sound bits (Var 0) truths (1 ∷ []) holds refl, tt) };
+  sound = record { distinct = search rules; decls = search rules; few = omega arith; constraints = (sample_sound bits (Var 0) truths (1 ∷ []) holds refl, tt); goal = tt; satisfied = refl };
   measured = (sample_measured bits (Var 0) truths (1 ∷ []) holds (omega arith), tt);
+  measured_goal = tt;
   cells = omega arith;
   items = omega (arith, holds.count);
   constraints = omega arith;

@@ -1,10 +1,11 @@
 -- The steps of a power.
 use Rattle.std.proofs.Common.{◌≡◌, ℕ, zero, suc, ◌+◌, ◌-◌, ◌<◌, ◌++◌, ap, sym, ◌∙◌, arith}
 use Rattle.fz_model.specs.declared.builtin.Builtin.TheVariants.{IntTimes}
-use Rattle.lo_terms.specs.Emitted.{Out, kept, integer_of_two}
+use Rattle.lo_emit.specs.Emitted.{Out, integer_of_two}
+use Rattle.lo_terms.specs.Emitted.{kept}
 use Rattle.lo_terms.specs.Rules.{powers, next_power}
-use Rattle.lo_terms.specs.declared.term.Term.{Term}
-use Rattle.lo_terms.specs.declared.term.Term.TheVariants.{Var}
+use Rattle.lo_emit.specs.declared.term.Term.{Term}
+use Rattle.lo_emit.specs.declared.term.Term.TheVariants.{Var}
 use Rattle.xf_num.specs.Span.{Bounds, pow_ends}
 
 -- one step, where one is left

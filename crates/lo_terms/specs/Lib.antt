@@ -1,4 +1,4 @@
 pub mod Emitted
+pub mod Gathered
 pub mod Rules
 pub mod Lowering
-pub mod Constraint

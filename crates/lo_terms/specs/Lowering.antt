@@ -7,7 +7,8 @@
 use Rattle.std.specs.Prelude.{ℕ, ◌+◌, List, [], ◌∷◌, ◌++◌, map, Bool, true, false}
 use Rattle.std.specs.List.{list_all}
 use Rattle.lo_base.specs.Item.{Item, made}
-use Rattle.lo_terms.specs.Emitted.{Out, ends}
+use Rattle.lo_emit.specs.Emitted.{Out}
+use Rattle.lo_terms.specs.Emitted.{ends}
 use Rattle.lo_terms.specs.Rules.{node, literal, variable, operand_mode}
 use Rattle.lo_terms.specs.declared.term.Mode.{Mode}
 use Rattle.lo_terms.specs.declared.term.Mode.TheVariants.{Stated}

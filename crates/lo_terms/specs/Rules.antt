@@ -7,12 +7,13 @@ use Rattle.fz_model.specs.declared.builtin.Builtin.{Builtin}
 use Rattle.fz_model.specs.declared.builtin.Builtin.TheVariants.{IntEq, IntNe, IntLe, IntLt, IntEqReif, IntNeReif, IntLeReif, IntLtReif, IntAbs, IntTimes, IntDiv, IntMod, ArrayIntMinimum, ArrayIntMaximum, Bool2Int, BoolEqReif, BoolLeReif, BoolNot, BoolXor, ArrayBoolAnd, ArrayBoolOr, SetIn}
 use Rattle.fz_model.specs.declared.model.Arg.TheVariants as arg
 use Rattle.lo_base.specs.Item.{Item, Posted}
-use Rattle.lo_terms.specs.Emitted.{Out, Outs, arg_of, kept, standing, after, after_all, integer_of_one, integer_of_two, integer_of_list, integer_of_sum, integer_of_place, truth_of_one, truth_of_two, truth_of_list, truth_of_set, truth_of_number, clause}
+use Rattle.lo_emit.specs.Emitted.{Out, Outs, arg_of, standing, after, after_all, integer_of_one, integer_of_two, integer_of_list, integer_of_sum, integer_of_place, truth_of_one, truth_of_two, truth_of_list, truth_of_set, truth_of_number, clause}
+use Rattle.lo_terms.specs.Emitted.{kept}
 use Rattle.lo_terms.specs.declared.term.Mode.{Mode}
 use Rattle.lo_terms.specs.declared.term.Mode.TheVariants.{Number, Logic, Stated}
 use Rattle.lo_terms.specs.declared.term.Operand.{Operand}
-use Rattle.lo_terms.specs.declared.term.Term.{Term}
-use Rattle.lo_terms.specs.declared.term.Term.TheVariants.{Int, Truth, Var}
+use Rattle.lo_emit.specs.declared.term.Term.{Term}
+use Rattle.lo_emit.specs.declared.term.Term.TheVariants.{Int, Truth, Var}
 use Rattle.xf_num.specs.Span.{Bounds, sub_ends, mul_ends, pow_ends}
 use Rattle.xs_model.specs.Bounds.{exactly, truths}
 use Rattle.xs_model.specs.declared.expr.Op.{Op}

@@ -1,34 +1,26 @@
 //! Expressions, from their operands up.
 
-ghost use Rattle.std.specs.Prelude.{◌∷◌, [], ◌≡◌, ◌+◌, ◌*◌, ◌≤◌, ◌<◌, ◌^◌, All, length, IfOk, OnOk, OnErr, IsErrOf};
+ghost use Rattle.std.specs.Prelude.{◌∷◌, [], ◌++◌, ◌≡◌, ◌+◌, ◌*◌, ◌≤◌, ◌<◌, ◌^◌, All, length, map, IfOk, OnOk, OnErr, IsErrOf};
 ghost use Rattle.std.specs.List.{list_all};
 ghost use Rattle.xf_text.specs.Outside.{Rose};
 ghost use Rattle.lo_base.specs.Item.{made};
-ghost use Rattle.lo_terms.specs.Lowering.{single, own_low, span_of, is_literal, is_written, has_written, low_expr, low_operands, low_intension};
+ghost use Rattle.lo_terms.specs.Emitted.{ends};
+ghost use Rattle.lo_terms.specs.Lowering.{single, own_low, is_literal, is_written, has_written, low_expr, low_operands, low_intension};
 ghost use Rattle.xs_model.specs.Formed.{nodes, nodes_of};
 ghost use Rattle.lo_terms.specs.Rules.{literal, variable, own_mode, operand_mode};
-ghost use Rattle.xs_model.specs.Bounds.{HasSpans};
+ghost use Rattle.xs_expr.specs.Operands.{gathered_of, none};
+ghost use Rattle.xs_model.specs.Bounds.{all_ok, bounds, exactly, limited, HasSpans};
 ghost use Rattle.xs_model.specs.Shape.{IsShaped, is_set_operator};
 
+use crate::gathered::{ends, own_bounds, with_next};
 use crate::node::{literal, node, variable};
-use crate::term::{Mode, Operand, Term};
+use crate::term::{Mode, Operand};
 use lo_base::{Emit, EmitStop};
 use std::alloc::Global;
-use xf_num::{NoMemory, Row, Span};
-use xs_expr::bounds;
+use xf_num::{Row, Span};
+use xf_text::Kind;
+use xs_expr::{Operands, limited, only};
 use xs_model::{Expr, Op};
-
-/// The bounds of an expression, 0 where a node of it is at fault.
-fn span_of(e: &Expr, spans: &[Span]) -> Span
-    requires shaped { IsShaped e.now }
-    requires variables { HasSpans spans.now e.now }
-    ensures { result ≡ span_of spans.now e.now }
-{
-    match bounds(e, spans) {
-        Ok(span) => span,
-        Err(_) => Span::new(0, 0).unwrap(),
-    }
-}
 
 /// Whether it is an integer as written.
 fn is_literal(e: &Expr) -> bool
@@ -102,112 +94,132 @@ fn is_set_operator(op: Op) -> bool
     }
 }
 
-/// The one operand that stands for an expression of these bounds.
-fn single(alloc: Global, term: Term, span: Span) -> Result<Row<Operand>, NoMemory>
-    ensures { IfOk result (λ os. os ≡ record { term = term; span = span } ∷ []) }
-{
-    let mut operands = Row::new(alloc);
-    operands.push(Operand { term, span })?;
-    Ok(operands)
-}
-
-/// A literal.
+/// A literal, whose operand goes behind the others.
 fn lower_literal<E: Emit>(
     alloc: Global,
     mode: Mode,
     value: i128,
-    span: Span,
+    operands: &mut Row<Operand>,
     out: &mut E,
-) -> Result<Row<Operand>, EmitStop>
+) -> Result<Result<Span, Kind>, EmitStop>
     requires { E.count out.old < 2 ^ 61 }
-    ensures value { IfOk result (λ os. os ≡ (single span (literal mode (E.count out.old) value)).operands) }
-    ensures ok { OnOk result (E.grew out.old out.new (single span (literal mode (E.count out.old) value)).items) }
-    ensures count { OnOk result (E.count out.new ≡ E.count out.old + made (single span (literal mode (E.count out.old) value)).items) }
-    ensures bound { IfOk result (λ os. E.count out.new + length os ≤ E.count out.old + 2) }
-    ensures stopped { OnErr result (E.began out.old out.new (single span (literal mode (E.count out.old) value)).items) }
+    ensures value { IfOk result (λ b. b ≡ limited (exactly value)) }
+    ensures told { OnOk result (operands.new ≡ operands.old ++ (single (ends (limited (exactly value))) (literal mode (E.count out.old) value)).operands) }
+    ensures ok { OnOk result (E.grew out.old out.new (single (ends (limited (exactly value))) (literal mode (E.count out.old) value)).items) }
+    ensures count { OnOk result (E.count out.new ≡ E.count out.old + made (single (ends (limited (exactly value))) (literal mode (E.count out.old) value)).items) }
+    ensures bound { OnOk result (E.count out.new + length operands.new ≤ E.count out.old + length operands.old + 2) }
+    ensures stopped { OnErr result (E.began out.old out.new (single (ends (limited (exactly value))) (literal mode (E.count out.old) value)).items) }
     ensures cause { IsErrOf result EmitStop.Failed → Rose (E.faults out.old) (E.faults out.new) }
 {
+    let bounds = limited(only(value));
+    let span = ends(&bounds);
     let term = literal(alloc, mode, value, out)?;
-    Ok(single(alloc, term, span)?)
+    operands.push(Operand { term, span })?;
+    Ok(bounds)
 }
 
-/// A variable.
+/// A variable of these bounds, whose operand goes behind the others.
 fn lower_variable<E: Emit>(
     alloc: Global,
     mode: Mode,
     number: u32,
-    span: Span,
+    given: Span,
+    operands: &mut Row<Operand>,
     out: &mut E,
-) -> Result<Row<Operand>, EmitStop>
+) -> Result<Result<Span, Kind>, EmitStop>
     requires { E.count out.old < 2 ^ 61 }
-    ensures value { IfOk result (λ os. os ≡ (single span (variable mode (E.count out.old) number)).operands) }
-    ensures ok { OnOk result (E.grew out.old out.new (single span (variable mode (E.count out.old) number)).items) }
-    ensures count { OnOk result (E.count out.new ≡ E.count out.old + made (single span (variable mode (E.count out.old) number)).items) }
-    ensures bound { IfOk result (λ os. E.count out.new + length os ≤ E.count out.old + 2) }
-    ensures stopped { OnErr result (E.began out.old out.new (single span (variable mode (E.count out.old) number)).items) }
+    ensures value { IfOk result (λ b. b ≡ limited given) }
+    ensures told { OnOk result (operands.new ≡ operands.old ++ (single (ends (limited given)) (variable mode (E.count out.old) number)).operands) }
+    ensures ok { OnOk result (E.grew out.old out.new (single (ends (limited given)) (variable mode (E.count out.old) number)).items) }
+    ensures count { OnOk result (E.count out.new ≡ E.count out.old + made (single (ends (limited given)) (variable mode (E.count out.old) number)).items) }
+    ensures bound { OnOk result (E.count out.new + length operands.new ≤ E.count out.old + length operands.old + 2) }
+    ensures stopped { OnErr result (E.began out.old out.new (single (ends (limited given)) (variable mode (E.count out.old) number)).items) }
     ensures cause { IsErrOf result EmitStop.Failed → Rose (E.faults out.old) (E.faults out.new) }
 {
+    let bounds = limited(given);
+    let span = ends(&bounds);
     let term = variable(alloc, mode, u64::from(number), out)?;
-    Ok(single(alloc, term, span)?)
+    operands.push(Operand { term, span })?;
+    Ok(bounds)
 }
 
-/// The operator, behind its operands.
+/// The operator, behind its own operands; what stands for it goes behind the other operands.
 fn finish<E: Emit>(
     alloc: Global,
     op: Op,
     mode: Mode,
-    span: Span,
+    bounds: Result<Span, Kind>,
     written: bool,
-    operands: Row<Operand>,
+    own: Row<Operand>,
+    operands: &mut Row<Operand>,
     out: &mut E,
-) -> Result<Row<Operand>, EmitStop>
-    requires { E.count out.old + (64 + length operands) ≤ 2 ^ 61 }
-    ensures value { IfOk result (λ os. os ≡ (own_low op mode span written (E.count out.old) operands).operands) }
-    ensures ok { OnOk result (E.grew out.old out.new (own_low op mode span written (E.count out.old) operands).items) }
-    ensures count { OnOk result (E.count out.new ≡ E.count out.old + made (own_low op mode span written (E.count out.old) operands).items) }
-    ensures bound { IfOk result (λ os. E.count out.new + length os ≤ E.count out.old + (65 + length operands)) }
-    ensures stopped { OnErr result (E.began out.old out.new (own_low op mode span written (E.count out.old) operands).items) }
+) -> Result<Result<Span, Kind>, EmitStop>
+    requires { E.count out.old + (64 + length own) ≤ 2 ^ 61 }
+    ensures value { IfOk result (λ b. b ≡ bounds) }
+    ensures told { OnOk result (operands.new ≡ operands.old ++ (own_low op mode (ends bounds) written (E.count out.old) own).operands) }
+    ensures ok { OnOk result (E.grew out.old out.new (own_low op mode (ends bounds) written (E.count out.old) own).items) }
+    ensures count { OnOk result (E.count out.new ≡ E.count out.old + made (own_low op mode (ends bounds) written (E.count out.old) own).items) }
+    ensures bound { OnOk result (E.count out.new + length operands.new ≤ E.count out.old + length operands.old + (65 + length own)) }
+    ensures stopped { OnErr result (E.began out.old out.new (own_low op mode (ends bounds) written (E.count out.old) own).items) }
     ensures cause { IsErrOf result EmitStop.Failed → Rose (E.faults out.old) (E.faults out.new) }
 {
     if is_set_operator(op) {
-        return Ok(operands);
+        operands.extend(own.as_slice())?;
+        return Ok(bounds);
     }
-    let term = node(alloc, op, mode, span, written, operands.as_slice(), out)?;
-    Ok(single(alloc, term, span)?)
+    let span = ends(&bounds);
+    let term = node(alloc, op, mode, span, written, own.as_slice(), out)?;
+    operands.push(Operand { term, span })?;
+    Ok(bounds)
 }
 
-/// What an expression is lowered to in a mode.
+/// Lowers an expression in a mode, puts what stands for it behind the operands, and answers its bounds, or the fault of
+/// the first of its nodes that is at fault.
 #[cycle(lowering)]
 fn lower_expr<E: Emit>(
     alloc: Global,
     mode: Mode,
     e: &Expr,
     spans: &[Span],
+    operands: &mut Row<Operand>,
     out: &mut E,
-) -> Result<Row<Operand>, EmitStop>
+) -> Result<Result<Span, Kind>, EmitStop>
     requires shaped { IsShaped e.now }
     requires variables { HasSpans spans.now e.now }
     requires room { E.count out.old + 68 * nodes e.now ≤ 2 ^ 61 }
-    ensures value { IfOk result (λ os. os ≡ (low_expr spans.now e.now mode (E.count out.old)).operands) }
+    ensures value { IfOk result (λ b. b ≡ bounds spans.now e.now) }
+    ensures told { OnOk result (operands.new ≡ operands.old ++ (low_expr spans.now e.now mode (E.count out.old)).operands) }
     ensures ok { OnOk result (E.grew out.old out.new (low_expr spans.now e.now mode (E.count out.old)).items) }
     ensures count { OnOk result (E.count out.new ≡ E.count out.old + made (low_expr spans.now e.now mode (E.count out.old)).items) }
-    ensures bound { IfOk result (λ os. E.count out.new + length os ≤ E.count out.old + 68 * nodes e.now) }
+    ensures bound { OnOk result (E.count out.new + length operands.new ≤ E.count out.old + length operands.old + 68 * nodes e.now) }
     ensures stopped { OnErr result (E.began out.old out.new (low_expr spans.now e.now mode (E.count out.old)).items) }
     ensures cause { IsErrOf result EmitStop.Failed → Rose (E.faults out.old) (E.faults out.new) }
 {
-    let span = span_of(e, spans);
     match e {
-        Expr::Int(value) => lower_literal(alloc, mode, *value, span, out),
-        Expr::Var(number) => lower_variable(alloc, mode, *number, span, out),
+        Expr::Int(value) => lower_literal(alloc, mode, *value, operands, out),
+        Expr::Var(number) => {
+            let given = spans[*number as usize];
+            lower_variable(alloc, mode, *number, given, operands, out)
+        }
         Expr::Node(op, items) => {
             let written = has_written(items.as_slice());
-            let operands = lower_operands(alloc, *op, mode, items.as_slice(), spans, out)?;
-            finish(alloc, *op, mode, span, written, operands, out)
+            let mut own = Row::new(alloc);
+            let gathered = lower_operands(
+                alloc,
+                *op,
+                mode,
+                items.as_slice(),
+                spans,
+                &mut own,
+                out,
+            )?;
+            let bounds = own_bounds(*op, gathered);
+            finish(alloc, *op, mode, bounds, written, own, operands, out)
         }
     }
 }
 
-/// What the operands of an operator are lowered to, one after the other.
+/// Lowers the operands of an operator, one after the other, and answers what is gathered of their bounds.
 #[cycle(lowering)]
 fn lower_operands<E: Emit>(
     alloc: Global,
@@ -215,24 +227,27 @@ fn lower_operands<E: Emit>(
     mode: Mode,
     items: &[Expr],
     spans: &[Span],
+    operands: &mut Row<Operand>,
     out: &mut E,
-) -> Result<Row<Operand>, EmitStop>
+) -> Result<Result<Operands, Kind>, EmitStop>
     requires shaped { All IsShaped items.now }
     requires variables { All (HasSpans spans.now) items.now }
     requires room { E.count out.old + 68 * nodes_of items.now ≤ 2 ^ 61 }
-    ensures value { IfOk result (λ os. os ≡ (low_operands spans.now op mode 0 (E.count out.old) items.now).operands) }
+    ensures value { IfOk result (λ g. g ≡ gathered_of op 0 none (all_ok (map (bounds spans.now) items.now))) }
+    ensures told { OnOk result (operands.new ≡ operands.old ++ (low_operands spans.now op mode 0 (E.count out.old) items.now).operands) }
     ensures ok { OnOk result (E.grew out.old out.new (low_operands spans.now op mode 0 (E.count out.old) items.now).items) }
     ensures count { OnOk result (E.count out.new ≡ E.count out.old + made (low_operands spans.now op mode 0 (E.count out.old) items.now).items) }
-    ensures bound { IfOk result (λ os. E.count out.new + length os ≤ E.count out.old + 68 * nodes_of items.now) }
+    ensures bound { OnOk result (E.count out.new + length operands.new ≤ E.count out.old + length operands.old + 68 * nodes_of items.now) }
     ensures stopped { OnErr result (E.began out.old out.new (low_operands spans.now op mode 0 (E.count out.old) items.now).items) }
     ensures cause { IsErrOf result EmitStop.Failed → Rose (E.faults out.old) (E.faults out.new) }
 {
-    let mut operands = Row::new(alloc);
+    let mut gathered = Ok(Operands::none());
     for (place, item) in items.iter().enumerate() {
-        let more = lower_expr(alloc, operand_mode(op, mode, place), item, spans, out)?;
-        operands.extend(more.as_slice())?;
+        let asked = operand_mode(op, mode, place);
+        let next = lower_expr(alloc, asked, item, spans, operands, out)?;
+        gathered = with_next(op, place, gathered, next);
     }
-    Ok(operands)
+    Ok(gathered)
 }
 
 /// Appends what states an expression that is well formed. `spans` are the bounds of the variables. The expression
@@ -253,6 +268,7 @@ pub fn lower_intension<E: Emit>(
     ensures stopped { OnErr result (E.began out.old out.new (low_intension spans.now (E.count out.old) e.now)) }
     ensures cause { IsErrOf result EmitStop.Failed → Rose (E.faults out.old) (E.faults out.new) }
 {
-    lower_expr(alloc, Mode::Stated, e, spans, out)?;
+    let mut operands = Row::new(alloc);
+    let _ = lower_expr(alloc, Mode::Stated, e, spans, &mut operands, out)?;
     Ok(())
 }

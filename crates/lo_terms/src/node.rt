@@ -3,16 +3,16 @@
 ghost use Rattle.std.specs.Prelude.{◌≡◌, ◌+◌, ◌≤◌, ◌<◌, ◌^◌, ◌∷◌, [], length, pos, negsuc, map, true, false, IfOk, OnOk, OnErr, IsErrOf, SomeIff};
 ghost use Rattle.xf_text.specs.Outside.{Rose};
 ghost use Rattle.lo_base.specs.Item.{made};
-ghost use Rattle.lo_terms.specs.Emitted.{truth_of_number};
+ghost use Rattle.lo_emit.specs.Emitted.{truth_of_number};
 ghost use Rattle.lo_terms.specs.Rules.{tested, stated_node, truth_node, number_node, gives_truth, counted, as_number, as_truth, asserted, node, literal_truth, literal, variable};
 
-use crate::define::{integer_of_one, truth_of_number};
 use crate::numbers::number_node;
 use crate::stated::{posting_clause, stated_node};
-use crate::term::{Mode, Operand, Term};
+use crate::term::{Mode, Operand};
 use crate::truths::truth_node;
 use fz_model::Builtin;
 use lo_base::{Emit, EmitStop, truth_values};
+use lo_emit::{Term, integer_of_one, truth_of_number};
 use std::alloc::Global;
 use xf_num::Span;
 use xs_model::Op;

@@ -4,23 +4,22 @@ ghost use Rattle.std.specs.Prelude.{◌≡◌, ◌+◌, ◌≤◌, ◌<◌, ◌^
 ghost use Rattle.xf_text.specs.Outside.{Rose};
 ghost use Rattle.lo_base.specs.Item.{made};
 ghost use Rattle.xf_num.specs.Span.{Bounds, EndsFit};
-ghost use Rattle.lo_terms.specs.Emitted.{kept, after, integer_of_one, integer_of_list, integer_of_sum};
+ghost use Rattle.lo_emit.specs.Emitted.{constants_of, after, integer_of_one, integer_of_list, integer_of_sum};
+ghost use Rattle.lo_terms.specs.Emitted.{kept};
 ghost use Rattle.xs_model.specs.Bounds.{truths};
 ghost use Rattle.fz_model.specs.declared.builtin.Builtin.TheVariants.{Bool2Int};
 ghost use Rattle.lo_terms.specs.Rules.{terms_of, sum_coefficients, difference, distance, product, product_of, powers, steps_of, steps_to, power_of, choice, choice_of, other_number, number_node};
 
-use crate::define::{
-    integer_of_list, integer_of_one, integer_of_place, integer_of_sum, integer_of_two,
-};
-use crate::term::{Operand, Term, operand_at, terms_of};
-use fz_model::Builtin;
+use crate::term::{Operand, args_of, list_with, operand_at};
+use fz_model::{Arg, Builtin, call_of_three, call_of_two};
 use lo_base::{Emit, EmitStop, truth_values};
+use lo_emit::{Term, integer_of_one, integer_of_place, integer_of_sum, integer_of_two};
 use std::alloc::Global;
-use xf_num::{Ints, NoMemory, Row, Span};
+use xf_num::{MAX_MAGNITUDE, NoMemory, Row, Span};
 use xs_model::Op;
 
 /// The greatest magnitude of an integer.
-const MAGNITUDE: i128 = (1 << 126) - 1;
+const MAGNITUDE: i128 = MAX_MAGNITUDE as i128;
 
 /// The bounds of a step, 0 where they are past the greatest magnitude.
 fn kept(span: Option<Span>) -> Span
@@ -33,15 +32,15 @@ fn kept(span: Option<Span>) -> Span
 }
 
 /// As many ones as there are operands, and -1.
-fn sum_coefficients(alloc: Global, operands: &[Operand]) -> Result<Ints, NoMemory>
-    ensures { IfOk result (λ cs. cs ≡ sum_coefficients operands.now) }
+fn sum_coefficients(alloc: Global, operands: &[Operand]) -> Result<Arg, NoMemory>
+    ensures { IfOk result (λ a. a ≡ constants_of (sum_coefficients operands.now)) }
 {
     let mut coefficients = Row::new(alloc);
     for _operand in operands {
-        coefficients.push(1)?;
+        coefficients.push(Arg::Int(1))?;
     }
-    coefficients.push(-1)?;
-    Ok(coefficients)
+    coefficients.push(Arg::Int(-1))?;
+    Ok(Arg::List(coefficients))
 }
 
 fn sum<E: Emit>(
@@ -57,16 +56,12 @@ fn sum<E: Emit>(
     ensures stopped { OnErr result (E.began out.old out.new (integer_of_sum (E.count out.old) span (sum_coefficients operands.now) (terms_of operands.now) (pos 0)).items) }
     ensures cause { IsErrOf result EmitStop.Failed → Rose (E.faults out.old) (E.faults out.new) }
 {
+    let r = out.new_int(span)?;
     let coefficients = sum_coefficients(alloc, operands)?;
-    let terms = terms_of(alloc, operands)?;
-    integer_of_sum(
-        alloc,
-        span,
-        coefficients.as_slice(),
-        terms.as_slice(),
-        0,
-        out,
-    )
+    let terms = list_with(alloc, operands, Term::Var(r))?;
+    let zero = Arg::Int(0);
+    out.post(call_of_three(alloc, Builtin::IntLinEq, coefficients, terms, zero)?)?;
+    Ok(Term::Var(r))
 }
 
 fn difference<E: Emit>(
@@ -284,8 +279,10 @@ fn extreme<E: Emit>(
     ensures stopped { OnErr result (E.began out.old out.new (integer_of_list (E.count out.old) span builtin (terms_of operands.now)).items) }
     ensures cause { IsErrOf result EmitStop.Failed → Rose (E.faults out.old) (E.faults out.new) }
 {
-    let terms = terms_of(alloc, operands)?;
-    integer_of_list(alloc, span, builtin, terms.as_slice(), out)
+    let r = out.new_int(span)?;
+    let list = Arg::List(args_of(alloc, operands)?);
+    out.post(call_of_two(alloc, builtin, Arg::Var(r), list)?)?;
+    Ok(Term::Var(r))
 }
 
 fn other_number<E: Emit>(

@@ -3,14 +3,15 @@
 ghost use Rattle.std.specs.Prelude.{◌≡◌, ◌+◌, ◌≤◌, ◌<◌, ◌^◌, ◌∷◌, [], length, pos, negsuc, map, true, false, IfOk, OnOk, OnErr, IsErrOf, SomeIff};
 ghost use Rattle.xf_text.specs.Outside.{Rose};
 ghost use Rattle.lo_base.specs.Item.{made};
-ghost use Rattle.lo_terms.specs.Emitted.{Out};
+ghost use Rattle.lo_emit.specs.Emitted.{Out};
 ghost use Rattle.lo_terms.specs.Rules.{asserted, some_equal, as_truth, posting, posting_clause, stated_equalities, stated_equal, stated_written, stated_member_among, stated_member, stated_node, terms_of};
 
 use crate::node::as_truth;
-use crate::term::{Operand, Term, arg_of, list_of, operand_at, terms_of};
+use crate::term::{Operand, args_of, operand_at};
 use crate::truths::{integer_terms, some_equal};
 use fz_model::{Arg, Builtin, call_of_two};
 use lo_base::{Emit, EmitStop};
+use lo_emit::{Term, arg_of, list_of};
 use std::alloc::Global;
 use xf_num::{Ints, Span};
 use xs_model::Op;
@@ -50,34 +51,47 @@ pub(crate) fn posting_clause<E: Emit>(
     Ok(())
 }
 
+/// Posts that one of the operands is true.
+fn posting_any<E: Emit>(alloc: Global, operands: &[Operand], out: &mut E) -> Result<(), EmitStop>
+    ensures ok { OnOk result (E.grew out.old out.new (posting_clause (terms_of operands.now) []).items) }
+    ensures count { OnOk result (E.count out.new ≡ E.count out.old + 0) }
+    ensures stopped { OnErr result (E.began out.old out.new (posting_clause (terms_of operands.now) []).items) }
+    ensures cause { IsErrOf result EmitStop.Failed → Rose (E.faults out.old) (E.faults out.new) }
+{
+    let first = Arg::List(args_of(alloc, operands)?);
+    let second = list_of(alloc, &[])?;
+    out.post(call_of_two(alloc, Builtin::BoolClause, first, second)?)?;
+    Ok(())
+}
+
 /// Each of the others equals the one before it.
 fn stated_equalities<E: Emit>(
     alloc: Global,
     first: Term,
-    others: &[Term],
+    others: &[Operand],
     out: &mut E,
 ) -> Result<(), EmitStop>
-    ensures ok { OnOk result (E.grew out.old out.new (stated_equalities first others.now)) }
+    ensures ok { OnOk result (E.grew out.old out.new (stated_equalities first (terms_of others.now))) }
     ensures count { OnOk result (E.count out.new ≡ E.count out.old + 0) }
-    ensures stopped { OnErr result (E.began out.old out.new (stated_equalities first others.now)) }
+    ensures stopped { OnErr result (E.began out.old out.new (stated_equalities first (terms_of others.now))) }
     ensures cause { IsErrOf result EmitStop.Failed → Rose (E.faults out.old) (E.faults out.new) }
 {
     let mut before = first;
     for other in others {
-        posting(alloc, Builtin::IntEq, before, *other, out)?;
-        before = *other;
+        posting(alloc, Builtin::IntEq, before, other.term, out)?;
+        before = other.term;
     }
     Ok(())
 }
 
-fn stated_equal<E: Emit>(alloc: Global, terms: &[Term], out: &mut E) -> Result<(), EmitStop>
-    ensures ok { OnOk result (E.grew out.old out.new (stated_equal terms.now).items) }
+fn stated_equal<E: Emit>(alloc: Global, operands: &[Operand], out: &mut E) -> Result<(), EmitStop>
+    ensures ok { OnOk result (E.grew out.old out.new (stated_equal (terms_of operands.now)).items) }
     ensures count { OnOk result (E.count out.new ≡ E.count out.old + 0) }
-    ensures stopped { OnErr result (E.began out.old out.new (stated_equal terms.now).items) }
+    ensures stopped { OnErr result (E.began out.old out.new (stated_equal (terms_of operands.now)).items) }
     ensures cause { IsErrOf result EmitStop.Failed → Rose (E.faults out.old) (E.faults out.new) }
 {
-    match terms {
-        [first, others @ ..] => stated_equalities(alloc, *first, others, out),
+    match operands {
+        [first, others @ ..] => stated_equalities(alloc, first.term, others, out),
         _ => Ok(()),
     }
 }
@@ -105,13 +119,13 @@ fn stated_written<E: Emit>(
 fn asserted_member<E: Emit>(
     alloc: Global,
     x: Term,
-    members: &[Term],
+    members: &[Operand],
     out: &mut E,
 ) -> Result<(), EmitStop>
     requires { E.count out.old + (length members.now + 1) ≤ 2 ^ 61 }
-    ensures ok { OnOk result (E.grew out.old out.new (asserted (E.count out.old) (some_equal (E.count out.old) x members.now)).items) }
+    ensures ok { OnOk result (E.grew out.old out.new (asserted (E.count out.old) (some_equal (E.count out.old) x (terms_of members.now))).items) }
     ensures count { OnOk result (E.count out.new ≡ E.count out.old + (length members.now + 1)) }
-    ensures stopped { OnErr result (E.began out.old out.new (asserted (E.count out.old) (some_equal (E.count out.old) x members.now)).items) }
+    ensures stopped { OnErr result (E.began out.old out.new (asserted (E.count out.old) (some_equal (E.count out.old) x (terms_of members.now))).items) }
     ensures cause { IsErrOf result EmitStop.Failed → Rose (E.faults out.old) (E.faults out.new) }
 {
     let truth = some_equal(alloc, x, members, out)?;
@@ -122,14 +136,14 @@ fn stated_member_among<E: Emit>(
     alloc: Global,
     written: bool,
     x: Term,
-    members: &[Term],
+    members: &[Operand],
     out: &mut E,
 ) -> Result<(), EmitStop>
     requires { E.count out.old + (length members.now + 1) ≤ 2 ^ 61 }
-    ensures ok { OnOk result (E.grew out.old out.new (stated_member_among written (E.count out.old) x members.now).items) }
-    ensures count { OnOk result (E.count out.new ≡ E.count out.old + made (stated_member_among written (E.count out.old) x members.now).items) }
+    ensures ok { OnOk result (E.grew out.old out.new (stated_member_among written (E.count out.old) x (terms_of members.now)).items) }
+    ensures count { OnOk result (E.count out.new ≡ E.count out.old + made (stated_member_among written (E.count out.old) x (terms_of members.now)).items) }
     ensures bound { OnOk result (E.count out.new ≤ E.count out.old + (length members.now + 1)) }
-    ensures stopped { OnErr result (E.began out.old out.new (stated_member_among written (E.count out.old) x members.now).items) }
+    ensures stopped { OnErr result (E.began out.old out.new (stated_member_among written (E.count out.old) x (terms_of members.now)).items) }
     ensures cause { IsErrOf result EmitStop.Failed → Rose (E.faults out.old) (E.faults out.new) }
 {
     if written {
@@ -143,18 +157,18 @@ fn stated_member_among<E: Emit>(
 fn stated_member<E: Emit>(
     alloc: Global,
     written: bool,
-    terms: &[Term],
+    operands: &[Operand],
     out: &mut E,
 ) -> Result<(), EmitStop>
-    requires { E.count out.old + length terms.now ≤ 2 ^ 61 }
-    ensures ok { OnOk result (E.grew out.old out.new (stated_member written (E.count out.old) terms.now).items) }
-    ensures count { OnOk result (E.count out.new ≡ E.count out.old + made (stated_member written (E.count out.old) terms.now).items) }
-    ensures bound { OnOk result (E.count out.new ≤ E.count out.old + length terms.now) }
-    ensures stopped { OnErr result (E.began out.old out.new (stated_member written (E.count out.old) terms.now).items) }
+    requires { E.count out.old + length operands.now ≤ 2 ^ 61 }
+    ensures ok { OnOk result (E.grew out.old out.new (stated_member written (E.count out.old) (terms_of operands.now)).items) }
+    ensures count { OnOk result (E.count out.new ≡ E.count out.old + made (stated_member written (E.count out.old) (terms_of operands.now)).items) }
+    ensures bound { OnOk result (E.count out.new ≤ E.count out.old + length operands.now) }
+    ensures stopped { OnErr result (E.began out.old out.new (stated_member written (E.count out.old) (terms_of operands.now)).items) }
     ensures cause { IsErrOf result EmitStop.Failed → Rose (E.faults out.old) (E.faults out.new) }
 {
-    match terms {
-        [x, members @ ..] => stated_member_among(alloc, written, *x, members, out),
+    match operands {
+        [x, members @ ..] => stated_member_among(alloc, written, x.term, members, out),
         _ => posting_clause(alloc, &[Term::Truth(false)], &[], out),
     }
 }
@@ -197,19 +211,17 @@ pub(crate) fn stated_node<E: Emit>(
 {
     let x = operand_at(operands, 0).term;
     let y = operand_at(operands, 1).term;
-    let all = terms_of(alloc, operands)?;
-    let terms = all.as_slice();
     match op {
         Op::Lt => posting(alloc, Builtin::IntLt, x, y, out),
         Op::Le => posting(alloc, Builtin::IntLe, x, y, out),
         Op::Gt => posting(alloc, Builtin::IntLt, y, x, out),
         Op::Ge => posting(alloc, Builtin::IntLe, y, x, out),
         Op::Ne => posting(alloc, Builtin::IntNe, x, y, out),
-        Op::Eq => stated_equal(alloc, terms, out),
-        Op::In => stated_member(alloc, written, terms, out),
+        Op::Eq => stated_equal(alloc, operands, out),
+        Op::In => stated_member(alloc, written, operands, out),
         Op::Not => posting_clause(alloc, &[], &[x], out),
         Op::And => Ok(()),
-        Op::Or => posting_clause(alloc, terms, &[], out),
+        Op::Or => posting_any(alloc, operands, out),
         Op::Imp => posting_clause(alloc, &[y], &[x], out),
         _ => asserted_node(alloc, op, span, written, operands, out),
     }

@@ -5,11 +5,12 @@ ghost use Rattle.xs_model.specs.Names.{words};
 ghost use Rattle.xs_model.specs.Bounds.{HasVariables};
 
 use crate::node::{literal, node, variable};
-use crate::term::{Mode, Operand, Term};
+use crate::term::{Mode, Operand};
 use crate::{lower, lower_intension};
 use fz_model::{Arg, FzVar, Goal, Model};
 use itoa::Buffer;
 use lo_base::{Emit, Held, auxiliary};
+use lo_emit::Term;
 use std::alloc::Global;
 use std::test::Fail;
 use xf_num::{Domain, NoMemory, Row, Span, Text};
@@ -145,7 +146,9 @@ fn operand(byte: u8) -> Operand {
 fn operands_of(alloc: Global, bytes: &[u8]) -> Result<Row<Operand>, NoMemory> {
     let mut operands = Row::new(alloc);
     for byte in bytes {
-        operands.push(operand(*byte))?;
+        if *byte != b' ' {
+            operands.push(operand(*byte))?;
+        }
     }
     Ok(operands)
 }
@@ -169,213 +172,52 @@ fn lowered(alloc: Global, op: Op, mode: Mode, literals: bool, bytes: &[u8]) -> R
     Ok(text)
 }
 
-#[test]
-fn numbers(rt: HostRuntime) -> Result<(), Fail> {
-    let cases: [(Op, &[u8], &[u8]); 16] = [
-        (
-            Op::Neg,
-            b"x",
-            b"-9..99; int_lin_eq [ 1 1 ] [ v20 v0 ] 0; v0",
-        ),
-        (Op::Abs, b"x", b"-9..99; int_abs v20 v0; v0"),
-        (Op::Sqr, b"x", b"-9..99; int_times v20 v20 v0; v0"),
-        (
-            Op::Add,
-            b"xy7",
-            b"-9..99; int_lin_eq [ 1 1 1 -1 ] [ v20 v21 7 v0 ] 0; v0",
-        ),
-        (
-            Op::Sub,
-            b"xy",
-            b"-9..99; int_lin_eq [ 1 -1 -1 ] [ v20 v21 v0 ] 0; v0",
-        ),
-        (
-            Op::Dist,
-            b"xy",
-            b"-7..3; -9..99; int_lin_eq [ 1 -1 -1 ] [ v20 v21 v0 ] 0; int_abs v0 v1; v1",
-        ),
-        (
-            Op::Mul,
-            b"xyz",
-            b"-10..15; -40..60; int_times v20 v21 v0; int_times v0 v22 v1; v1",
-        ),
-        (Op::Mul, b"x3", b"-6..9; int_times v20 3 v0; v0"),
-        (Op::Pow, b"x1", b"v20"),
-        (
-            Op::Pow,
-            b"x3",
-            b"0..9; -8..27; int_times v20 v20 v0; int_times v0 v20 v1; v1",
-        ),
-        (Op::Pow, b"22", b"4..4; int_times 2 2 v0; v0"),
-        (Op::Div, b"yz", b"-9..99; int_div v21 v22 v0; v0"),
-        (Op::Mod, b"yz", b"-9..99; int_mod v21 v22 v0; v0"),
-        (
-            Op::Min,
-            b"xyz",
-            b"-9..99; array_int_minimum v0 [ v20 v21 v22 ]; v0",
-        ),
-        (
-            Op::Max,
-            b"x5",
-            b"-9..99; array_int_maximum v0 [ v20 5 ]; v0",
-        ),
-        (
-            Op::If,
-            b"zxy",
-            b"0..1; 1..2; -9..99; bool2int v22 v0; int_lin_eq [ 1 1 ] [ v0 v1 ] 2; array_var_int_element v1 [ v20 v21 ] v2; v2",
-        ),
-    ];
-    for (op, operands, wanted) in cases {
-        let text = lowered(rt.alloc(), op, Mode::Number, false, operands)?;
-        assert_eq!(rt; text.as_slice(), wanted);
+// The operator that a byte stands for, and how many operands it has.
+fn operator_of(byte: u8) -> (Op, u8) {
+    match byte {
+        b'n' => (Op::Neg, 1),
+        b'a' => (Op::Abs, 1),
+        b's' => (Op::Sqr, 1),
+        b'!' => (Op::Not, 1),
+        b'+' => (Op::Add, 2),
+        b'-' => (Op::Sub, 2),
+        b'*' => (Op::Mul, 2),
+        b'm' => (Op::Mul, 3),
+        b'd' => (Op::Dist, 2),
+        b'/' => (Op::Div, 2),
+        b'%' => (Op::Mod, 2),
+        b'^' => (Op::Pow, 2),
+        b'w' => (Op::Min, 2),
+        b'M' => (Op::Max, 2),
+        b'<' => (Op::Lt, 2),
+        b'L' => (Op::Le, 2),
+        b'>' => (Op::Gt, 2),
+        b'G' => (Op::Ge, 2),
+        b'#' => (Op::Ne, 2),
+        b'=' => (Op::Eq, 2),
+        b'E' => (Op::Eq, 3),
+        b'i' => (Op::In, 2),
+        b'o' => (Op::NotIn, 2),
+        b'&' => (Op::And, 2),
+        b'A' => (Op::And, 3),
+        b'|' => (Op::Or, 2),
+        b'X' => (Op::Xor, 3),
+        b'q' => (Op::Iff, 2),
+        b'I' => (Op::Imp, 2),
+        b'?' => (Op::If, 3),
+        b'S' => (Op::Set, 2),
+        b'T' => (Op::Set, 3),
+        _ => (Op::Set, 0),
     }
-    Ok(())
 }
 
-#[test]
-fn truth_values(rt: HostRuntime) -> Result<(), Fail> {
-    let cases: [(Op, bool, &[u8], &[u8]); 21] = [
-        (Op::Lt, false, b"xy", b"bool; int_lt_reif v20 v21 v0; v0"),
-        (Op::Le, false, b"xy", b"bool; int_le_reif v20 v21 v0; v0"),
-        (Op::Gt, false, b"xy", b"bool; int_lt_reif v21 v20 v0; v0"),
-        (Op::Ge, false, b"xy", b"bool; int_le_reif v21 v20 v0; v0"),
-        (Op::Ne, false, b"x4", b"bool; int_ne_reif v20 4 v0; v0"),
-        (Op::Eq, false, b"xy", b"bool; int_eq_reif v20 v21 v0; v0"),
-        (
-            Op::Eq,
-            false,
-            b"xyz",
-            b"bool; bool; bool; int_eq_reif v20 v21 v0; int_eq_reif v21 v22 v1; array_bool_and [ v0 v1 ] v2; v2",
-        ),
-        (Op::In, true, b"x", b"false"),
-        (
-            Op::In,
-            true,
-            b"x313",
-            b"bool; set_in_reif v20 { 3 1 3 } v0; v0",
-        ),
-        (
-            Op::In,
-            false,
-            b"xy1",
-            b"bool; bool; bool; int_eq_reif v20 v21 v0; int_eq_reif v20 1 v1; array_bool_or [ v0 v1 ] v2; v2",
-        ),
-        (Op::NotIn, true, b"x", b"bool; bool_not false v0; v0"),
-        (
-            Op::NotIn,
-            true,
-            b"x3",
-            b"bool; bool; set_in_reif v20 { 3 } v0; bool_not v0 v1; v1",
-        ),
-        (
-            Op::NotIn,
-            false,
-            b"xy",
-            b"bool; bool; bool; int_eq_reif v20 v21 v0; array_bool_or [ v0 ] v1; bool_not v1 v2; v2",
-        ),
-        (Op::Not, false, b"x", b"bool; bool_not v20 v0; v0"),
-        (
-            Op::And,
-            false,
-            b"xyz",
-            b"bool; array_bool_and [ v20 v21 v22 ] v0; v0",
-        ),
-        (
-            Op::Or,
-            false,
-            b"xy",
-            b"bool; array_bool_or [ v20 v21 ] v0; v0",
-        ),
-        (Op::Xor, false, b"xy", b"bool; bool_xor v20 v21 v0; v0"),
-        (
-            Op::Xor,
-            false,
-            b"xyz",
-            b"bool; bool; bool_xor v20 v21 v0; bool_xor v0 v22 v1; v1",
-        ),
-        (Op::Iff, false, b"xy", b"bool; bool_eq_reif v20 v21 v0; v0"),
-        (Op::Imp, false, b"xy", b"bool; bool_le_reif v20 v21 v0; v0"),
-        (
-            Op::Abs,
-            false,
-            b"x",
-            b"-9..99; bool; int_abs v20 v0; bool2int v1 v0; v1",
-        ),
-    ];
-    for (op, literals, operands, wanted) in cases {
-        let text = lowered(rt.alloc(), op, Mode::Logic, literals, operands)?;
-        assert_eq!(rt; text.as_slice(), wanted);
+// The mode that a byte stands for.
+fn mode_of(byte: u8) -> Mode {
+    match byte {
+        b'N' => Mode::Number,
+        b'L' => Mode::Logic,
+        _ => Mode::Stated,
     }
-    let text = lowered(rt.alloc(), Op::Lt, Mode::Number, false, b"xy")?;
-    assert_eq!(rt;
-        text.as_slice(),
-        b"bool; 0..1; int_lt_reif v20 v21 v0; bool2int v0 v1; v1".as_slice()
-    );
-    Ok(())
-}
-
-#[test]
-fn statements(rt: HostRuntime) -> Result<(), Fail> {
-    let cases: [(Op, bool, &[u8], &[u8]); 18] = [
-        (Op::Lt, false, b"xy", b"int_lt v20 v21; true"),
-        (Op::Le, false, b"xy", b"int_le v20 v21; true"),
-        (Op::Gt, false, b"xy", b"int_lt v21 v20; true"),
-        (Op::Ge, false, b"xy", b"int_le v21 v20; true"),
-        (Op::Ne, false, b"xy", b"int_ne v20 v21; true"),
-        (Op::Eq, false, b"xy", b"int_eq v20 v21; true"),
-        (
-            Op::Eq,
-            false,
-            b"xyz",
-            b"int_eq v20 v21; int_eq v21 v22; true",
-        ),
-        (Op::And, false, b"xy", b"true"),
-        (
-            Op::Or,
-            false,
-            b"xyz",
-            b"bool_clause [ v20 v21 v22 ] [ ]; true",
-        ),
-        (Op::Imp, false, b"xy", b"bool_clause [ v21 ] [ v20 ]; true"),
-        (Op::Not, false, b"x", b"bool_clause [ ] [ v20 ]; true"),
-        (Op::In, true, b"x31", b"set_in v20 { 3 1 }; true"),
-        (Op::In, true, b"x", b"bool_clause [ false ] [ ]; true"),
-        (
-            Op::In,
-            false,
-            b"xy",
-            b"bool; bool; int_eq_reif v20 v21 v0; array_bool_or [ v0 ] v1; bool_clause [ v1 ] [ ]; true",
-        ),
-        (
-            Op::NotIn,
-            true,
-            b"x3",
-            b"bool; bool; set_in_reif v20 { 3 } v0; bool_not v0 v1; bool_clause [ v1 ] [ ]; true",
-        ),
-        (
-            Op::Xor,
-            false,
-            b"xy",
-            b"bool; bool_xor v20 v21 v0; bool_clause [ v0 ] [ ]; true",
-        ),
-        (
-            Op::Iff,
-            false,
-            b"xy",
-            b"bool; bool_eq_reif v20 v21 v0; bool_clause [ v0 ] [ ]; true",
-        ),
-        (
-            Op::Sub,
-            false,
-            b"xy",
-            b"-9..99; bool; int_lin_eq [ 1 -1 -1 ] [ v20 v21 v0 ] 0; bool2int v1 v0; bool_clause [ v1 ] [ ]; true",
-        ),
-    ];
-    for (op, literals, operands, wanted) in cases {
-        let text = lowered(rt.alloc(), op, Mode::Stated, literals, operands)?;
-        assert_eq!(rt; text.as_slice(), wanted);
-    }
-    Ok(())
 }
 
 fn lowered_literal(alloc: Global, mode: Mode, value: i128) -> Result<Text, Fail> {
@@ -394,8 +236,79 @@ fn lowered_variable(alloc: Global, mode: Mode, number: u64) -> Result<Text, Fail
     Ok(text)
 }
 
+// In turn: the mode, `=` where all members are integers as written, the operator, up to four operands; and then the
+// variables and calls that are wanted, and what stands for the node.
 #[test]
-fn leaves(rt: HostRuntime) -> Result<(), Fail> {
+fn operators(rt: HostRuntime) -> Result<(), Fail> {
+    let cases: [&[u8]; 56] = [
+        b"N.nx    -9..99; int_lin_eq [ 1 1 ] [ v20 v0 ] 0; v0",
+        b"N.ax    -9..99; int_abs v20 v0; v0",
+        b"N.sx    -9..99; int_times v20 v20 v0; v0",
+        b"N.+xy7  -9..99; int_lin_eq [ 1 1 1 -1 ] [ v20 v21 7 v0 ] 0; v0",
+        b"N.-xy   -9..99; int_lin_eq [ 1 -1 -1 ] [ v20 v21 v0 ] 0; v0",
+        b"N.dxy   -7..3; -9..99; int_lin_eq [ 1 -1 -1 ] [ v20 v21 v0 ] 0; int_abs v0 v1; v1",
+        b"N.*xyz  -10..15; -40..60; int_times v20 v21 v0; int_times v0 v22 v1; v1",
+        b"N.*x3   -6..9; int_times v20 3 v0; v0",
+        b"N.^x1   v20",
+        b"N.^x3   0..9; -8..27; int_times v20 v20 v0; int_times v0 v20 v1; v1",
+        b"N.^22   4..4; int_times 2 2 v0; v0",
+        b"N./yz   -9..99; int_div v21 v22 v0; v0",
+        b"N.%yz   -9..99; int_mod v21 v22 v0; v0",
+        b"N.wxyz  -9..99; array_int_minimum v0 [ v20 v21 v22 ]; v0",
+        b"N.Mx5   -9..99; array_int_maximum v0 [ v20 5 ]; v0",
+        b"N.?zxy  0..1; 1..2; -9..99; bool2int v22 v0; int_lin_eq [ 1 1 ] [ v0 v1 ] 2; array_var_int_element v1 [ v20 v21 ] v2; v2",
+        b"L.<xy   bool; int_lt_reif v20 v21 v0; v0",
+        b"L.Lxy   bool; int_le_reif v20 v21 v0; v0",
+        b"L.>xy   bool; int_lt_reif v21 v20 v0; v0",
+        b"L.Gxy   bool; int_le_reif v21 v20 v0; v0",
+        b"L.#x4   bool; int_ne_reif v20 4 v0; v0",
+        b"L.=xy   bool; int_eq_reif v20 v21 v0; v0",
+        b"L.=xyz  bool; bool; bool; int_eq_reif v20 v21 v0; int_eq_reif v21 v22 v1; array_bool_and [ v0 v1 ] v2; v2",
+        b"L=ix    false",
+        b"L=ix313 bool; set_in_reif v20 { 3 1 3 } v0; v0",
+        b"L.ixy1  bool; bool; bool; int_eq_reif v20 v21 v0; int_eq_reif v20 1 v1; array_bool_or [ v0 v1 ] v2; v2",
+        b"L=ox    bool; bool_not false v0; v0",
+        b"L=ox3   bool; bool; set_in_reif v20 { 3 } v0; bool_not v0 v1; v1",
+        b"L.oxy   bool; bool; bool; int_eq_reif v20 v21 v0; array_bool_or [ v0 ] v1; bool_not v1 v2; v2",
+        b"L.!x    bool; bool_not v20 v0; v0",
+        b"L.&xyz  bool; array_bool_and [ v20 v21 v22 ] v0; v0",
+        b"L.|xy   bool; array_bool_or [ v20 v21 ] v0; v0",
+        b"L.Xxy   bool; bool_xor v20 v21 v0; v0",
+        b"L.Xxyz  bool; bool; bool_xor v20 v21 v0; bool_xor v0 v22 v1; v1",
+        b"L.qxy   bool; bool_eq_reif v20 v21 v0; v0",
+        b"L.Ixy   bool; bool_le_reif v20 v21 v0; v0",
+        b"L.ax    -9..99; bool; int_abs v20 v0; bool2int v1 v0; v1",
+        b"N.<xy   bool; 0..1; int_lt_reif v20 v21 v0; bool2int v0 v1; v1",
+        b"S.<xy   int_lt v20 v21; true",
+        b"S.Lxy   int_le v20 v21; true",
+        b"S.>xy   int_lt v21 v20; true",
+        b"S.Gxy   int_le v21 v20; true",
+        b"S.#xy   int_ne v20 v21; true",
+        b"S.=xy   int_eq v20 v21; true",
+        b"S.=xyz  int_eq v20 v21; int_eq v21 v22; true",
+        b"S.&xy   true",
+        b"S.|xyz  bool_clause [ v20 v21 v22 ] [ ]; true",
+        b"S.Ixy   bool_clause [ v21 ] [ v20 ]; true",
+        b"S.!x    bool_clause [ ] [ v20 ]; true",
+        b"S=ix31  set_in v20 { 3 1 }; true",
+        b"S=ix    bool_clause [ false ] [ ]; true",
+        b"S.ixy   bool; bool; int_eq_reif v20 v21 v0; array_bool_or [ v0 ] v1; bool_clause [ v1 ] [ ]; true",
+        b"S=ox3   bool; bool; set_in_reif v20 { 3 } v0; bool_not v0 v1; bool_clause [ v1 ] [ ]; true",
+        b"S.Xxy   bool; bool_xor v20 v21 v0; bool_clause [ v0 ] [ ]; true",
+        b"S.qxy   bool; bool_eq_reif v20 v21 v0; bool_clause [ v0 ] [ ]; true",
+        b"S.-xy   -9..99; bool; int_lin_eq [ 1 -1 -1 ] [ v20 v21 v0 ] 0; bool2int v1 v0; bool_clause [ v1 ] [ ]; true",
+    ];
+    for case in cases {
+        match case {
+            [mode, literals, op, a, b, c, d, b' ', wanted @ ..] => {
+                let operands = [*a, *b, *c, *d];
+                let (op, _) = operator_of(*op);
+                let text = lowered(rt.alloc(), op, mode_of(*mode), *literals == b'=', &operands)?;
+                assert_eq!(rt; text.as_slice(), wanted);
+            }
+            _ => assert!(rt; false),
+        }
+    }
     let literals: [(Mode, i128, &[u8]); 7] = [
         (Mode::Number, 1, b"1"),
         (Mode::Number, -8, b"-8"),
@@ -489,243 +402,32 @@ fn x() -> Expr
     Expr::Var(0)
 }
 
-fn y() -> Expr {
-    Expr::Var(1)
-}
-
-fn t() -> Expr {
-    Expr::Var(2)
-}
-
-fn one(alloc: Global, op: Op, a: Expr) -> Result<Expr, NoMemory> {
+// The operator over what stands on top, the first operand uppermost.
+fn node_over(alloc: Global, byte: u8, stack: &mut Vec<Expr>) -> Result<Expr, Fail> {
+    let (op, count) = operator_of(byte);
     let mut operands = Row::new(alloc);
-    operands.push(a)?;
+    for _ in 0..count {
+        if let Some(operand) = stack.pop() {
+            operands.push(operand)?;
+        }
+    }
     Ok(Expr::Node(op, operands))
 }
 
-fn two(alloc: Global, op: Op, a: Expr, b: Expr) -> Result<Expr, NoMemory> {
-    let mut operands = Row::new(alloc);
-    operands.push(a)?;
-    operands.push(b)?;
-    Ok(Expr::Node(op, operands))
-}
-
-fn three(alloc: Global, op: Op, a: Expr, b: Expr, c: Expr) -> Result<Expr, NoMemory> {
-    let mut operands = Row::new(alloc);
-    operands.push(a)?;
-    operands.push(b)?;
-    operands.push(c)?;
-    Ok(Expr::Node(op, operands))
-}
-
-#[test]
-fn sums(rt: HostRuntime) -> Result<(), Fail> {
-    let a = rt.alloc();
-    let e = two(a, Op::Le, two(a, Op::Add, x(), y())?, Expr::Int(3))?;
-    assert_eq!(rt;
-        stated(a, &e)?.as_slice(),
-        b"bool; bool; bool; -2..8; int_lin_eq [ 1 1 -1 ] [ v0 v1 v3 ] 0; int_le v3 3; ".as_slice()
-    );
-    Ok(())
-}
-
-#[test]
-fn connectives(rt: HostRuntime) -> Result<(), Fail> {
-    let a = rt.alloc();
-    let e = two(
-        a,
-        Op::And,
-        two(a, Op::Lt, x(), y())?,
-        two(
-            a,
-            Op::Or,
-            two(a, Op::Eq, x(), Expr::Int(1))?,
-            two(a, Op::Gt, y(), Expr::Int(2))?,
-        )?,
-    )?;
-    assert_eq!(rt;
-        stated(a, &e)?.as_slice(),
-        b"bool; bool; bool; bool; bool; int_lt v0 v1; int_eq_reif v0 1 v3; int_lt_reif 2 v1 v4; bool_clause [ v3 v4 ] [ ]; ".as_slice()
-    );
-    Ok(())
-}
-
-#[test]
-fn choices(rt: HostRuntime) -> Result<(), Fail> {
-    let a = rt.alloc();
-    let e = two(
-        a,
-        Op::Eq,
-        three(
-            a,
-            Op::If,
-            two(a, Op::Lt, x(), y())?,
-            x(),
-            two(a, Op::Add, y(), Expr::Int(1))?,
-        )?,
-        two(a, Op::Dist, x(), y())?,
-    )?;
-    assert_eq!(rt;
-        stated(a, &e)?.as_slice(),
-        b"bool; bool; bool; bool; 1..6; 0..1; 1..2; -2..6; -7..3; 0..7; int_lt_reif v0 v1 v3; int_lin_eq [ 1 1 -1 ] [ v1 1 v4 ] 0; bool2int v3 v5; int_lin_eq [ 1 1 ] [ v5 v6 ] 2; array_var_int_element v6 [ v0 v4 ] v7; int_lin_eq [ 1 -1 -1 ] [ v0 v1 v8 ] 0; int_abs v8 v9; int_eq v7 v9; ".as_slice()
-    );
-    Ok(())
-}
-
-#[test]
-fn members_that_are_no_literals(rt: HostRuntime) -> Result<(), Fail> {
-    let a = rt.alloc();
-    let e = two(
-        a,
-        Op::In,
-        two(a, Op::Mul, x(), y())?,
-        three(
-            a,
-            Op::Set,
-            Expr::Int(1),
-            two(a, Op::Pow, Expr::Int(3), Expr::Int(1))?,
-            x(),
-        )?,
-    )?;
-    assert_eq!(rt;
-        stated(a, &e)?.as_slice(),
-        b"bool; bool; bool; -10..15; bool; bool; bool; bool; int_times v0 v1 v3; int_eq_reif v3 1 v4; int_eq_reif v3 3 v5; int_eq_reif v3 v0 v6; array_bool_or [ v4 v5 v6 ] v7; bool_clause [ v7 ] [ ]; ".as_slice()
-    );
-    Ok(())
-}
-
-#[test]
-fn literal_members(rt: HostRuntime) -> Result<(), Fail> {
-    let a = rt.alloc();
-    let e = one(
-        a,
-        Op::Not,
-        two(a, Op::In, x(), two(a, Op::Set, Expr::Int(2), Expr::Int(1))?)?,
-    )?;
-    assert_eq!(rt;
-        stated(a, &e)?.as_slice(),
-        b"bool; bool; bool; bool; set_in_reif v0 { 2 1 } v3; bool_clause [ ] [ v3 ]; ".as_slice()
-    );
-    Ok(())
-}
-
-#[test]
-fn empty_sets(rt: HostRuntime) -> Result<(), Fail> {
-    let a = rt.alloc();
-    let e = two(
-        a,
-        Op::Iff,
-        t(),
-        two(
-            a,
-            Op::NotIn,
-            one(a, Op::Neg, y())?,
-            Expr::Node(Op::Set, Row::new(a)),
-        )?,
-    )?;
-    assert_eq!(rt;
-        stated(a, &e)?.as_slice(),
-        b"bool; bool; bool; bool; -5..0; bool; bool; bool2int v3 v2; int_lin_eq [ 1 1 ] [ v1 v4 ] 0; bool_not false v5; bool_eq_reif v3 v5 v6; bool_clause [ v6 ] [ ]; ".as_slice()
-    );
-    Ok(())
-}
-
-#[test]
-fn implications(rt: HostRuntime) -> Result<(), Fail> {
-    let a = rt.alloc();
-    let e = two(
-        a,
-        Op::Imp,
-        two(a, Op::Ge, x(), Expr::Int(1))?,
-        three(
-            a,
-            Op::Xor,
-            two(a, Op::Lt, x(), y())?,
-            t(),
-            two(a, Op::Ne, x(), y())?,
-        )?,
-    )?;
-    assert_eq!(rt;
-        stated(a, &e)?.as_slice(),
-        b"bool; bool; bool; bool; bool; bool; bool; bool; bool; int_le_reif 1 v0 v3; int_lt_reif v0 v1 v4; bool2int v5 v2; int_ne_reif v0 v1 v6; bool_xor v4 v5 v7; bool_xor v7 v6 v8; bool_clause [ v8 ] [ v3 ]; ".as_slice()
-    );
-    Ok(())
-}
-
-#[test]
-fn quotients(rt: HostRuntime) -> Result<(), Fail> {
-    let a = rt.alloc();
-    let e = two(
-        a,
-        Op::Eq,
-        two(a, Op::Add, two(a, Op::Lt, x(), y())?, Expr::Int(2))?,
-        two(
-            a,
-            Op::Mod,
-            two(a, Op::Div, y(), Expr::Int(2))?,
-            Expr::Int(3),
-        )?,
-    )?;
-    assert_eq!(rt;
-        stated(a, &e)?.as_slice(),
-        b"bool; bool; bool; bool; 0..1; 2..3; 0..2; 0..2; int_lt_reif v0 v1 v3; bool2int v3 v4; int_lin_eq [ 1 1 -1 ] [ v4 2 v5 ] 0; int_div v1 2 v6; int_mod v6 3 v7; int_eq v5 v7; ".as_slice()
-    );
-    Ok(())
-}
-
-#[test]
-fn statements_in_turn(rt: HostRuntime) -> Result<(), Fail> {
-    let a = rt.alloc();
-    let e = three(
-        a,
-        Op::And,
-        three(a, Op::And, t(), Expr::Int(1), Expr::Int(0))?,
-        two(a, Op::Ne, x(), y())?,
-        two(a, Op::Iff, t(), t())?,
-    )?;
-    assert_eq!(rt;
-        stated(a, &e)?.as_slice(),
-        b"bool; bool; bool; bool; bool; bool; bool; bool2int v3 v2; bool_clause [ v3 ] [ ]; bool_clause [ true ] [ ]; bool_clause [ false ] [ ]; int_ne v0 v1; bool2int v4 v2; bool2int v5 v2; bool_eq_reif v4 v5 v6; bool_clause [ v6 ] [ ]; ".as_slice()
-    );
-    Ok(())
-}
-
-#[test]
-fn powers_and_greatest(rt: HostRuntime) -> Result<(), Fail> {
-    let a = rt.alloc();
-    let e = three(
-        a,
-        Op::Eq,
-        x(),
-        two(a, Op::Pow, y(), Expr::Int(3))?,
-        two(a, Op::Max, x(), two(a, Op::Sub, x(), y())?)?,
-    )?;
-    assert_eq!(rt;
-        stated(a, &e)?.as_slice(),
-        b"bool; bool; bool; 0..25; 0..125; -7..3; -2..3; int_times v1 v1 v3; int_times v3 v1 v4; int_lin_eq [ 1 -1 -1 ] [ v0 v1 v5 ] 0; array_int_maximum v6 [ v0 v5 ]; int_eq v0 v4; int_eq v4 v6; ".as_slice()
-    );
-    Ok(())
-}
-
-#[test]
-fn products(rt: HostRuntime) -> Result<(), Fail> {
-    let a = rt.alloc();
-    let e = two(
-        a,
-        Op::Or,
-        two(
-            a,
-            Op::Eq,
-            two(a, Op::Mul, x(), y())?,
-            three(a, Op::Mul, Expr::Int(2), x(), x())?,
-        )?,
-        two(a, Op::NotIn, x(), two(a, Op::Set, Expr::Int(4), y())?)?,
-    )?;
-    assert_eq!(rt;
-        stated(a, &e)?.as_slice(),
-        b"bool; bool; bool; -10..15; -4..6; -12..18; bool; bool; bool; bool; bool; int_times v0 v1 v3; int_times 2 v0 v4; int_times v4 v0 v5; int_eq_reif v3 v5 v6; int_eq_reif v0 4 v7; int_eq_reif v0 v1 v8; array_bool_or [ v7 v8 ] v9; bool_not v9 v10; bool_clause [ v6 v10 ] [ ]; ".as_slice()
-    );
-    Ok(())
+// An expression, each operator before its operands.
+fn built(alloc: Global, text: &[u8]) -> Result<Expr, Fail> {
+    let mut stack = Vec::new(alloc);
+    for byte in text.iter().rev() {
+        let e = match *byte {
+            b'x' => Expr::Var(0),
+            b'y' => Expr::Var(1),
+            b't' => Expr::Var(2),
+            b'0'..=b'9' => Expr::Int(i128::from(*byte) - 48),
+            operator => node_over(alloc, operator, &mut stack)?,
+        };
+        stack.push(e)?;
+    }
+    Ok(stack.pop().unwrap_or(Expr::Int(0)))
 }
 
 // The variable x of 0..1, which holds.
@@ -736,26 +438,75 @@ fn one_bit(alloc: Global) -> Result<Instance, NoMemory>
 {
     let mut name = Row::new(alloc);
     name.extend(b"x")?;
-    let domain = Domain::of(Span::new(0, 1).unwrap(), alloc)?;
+    let domain = Domain::of(alloc, Span::new(0, 1).unwrap())?;
     let mut decls = Row::new(alloc);
     decls.push(Decl::One { name, domain })?;
     let mut constraints = Row::new(alloc);
     constraints.push(Constraint::Intension { expr: x() })?;
-    Ok(Instance { decls, constraints })
+    Ok(Instance {
+        decls,
+        constraints,
+        objective: None,
+    })
 }
 
 #[test]
-fn constraints(rt: HostRuntime) -> Result<(), Fail> {
+fn expressions(rt: HostRuntime) -> Result<(), Fail> {
+    let cases: [(&[u8], &[u8]); 11] = [
+        (
+            b"L+xy3",
+            b"bool; bool; bool; -2..8; int_lin_eq [ 1 1 -1 ] [ v0 v1 v3 ] 0; int_le v3 3; ",
+        ),
+        (
+            b"&<xy|=x1>y2",
+            b"bool; bool; bool; bool; bool; int_lt v0 v1; int_eq_reif v0 1 v3; int_lt_reif 2 v1 v4; bool_clause [ v3 v4 ] [ ]; ",
+        ),
+        (
+            b"=?<xyx+y1dxy",
+            b"bool; bool; bool; bool; 1..6; 0..1; 1..2; -2..6; -7..3; 0..7; int_lt_reif v0 v1 v3; int_lin_eq [ 1 1 -1 ] [ v1 1 v4 ] 0; bool2int v3 v5; int_lin_eq [ 1 1 ] [ v5 v6 ] 2; array_var_int_element v6 [ v0 v4 ] v7; int_lin_eq [ 1 -1 -1 ] [ v0 v1 v8 ] 0; int_abs v8 v9; int_eq v7 v9; ",
+        ),
+        (
+            b"i*xyT1^31x",
+            b"bool; bool; bool; -10..15; bool; bool; bool; bool; int_times v0 v1 v3; int_eq_reif v3 1 v4; int_eq_reif v3 3 v5; int_eq_reif v3 v0 v6; array_bool_or [ v4 v5 v6 ] v7; bool_clause [ v7 ] [ ]; ",
+        ),
+        (
+            b"!ixS21",
+            b"bool; bool; bool; bool; set_in_reif v0 { 2 1 } v3; bool_clause [ ] [ v3 ]; ",
+        ),
+        (
+            b"qtony{",
+            b"bool; bool; bool; bool; -5..0; bool; bool; bool2int v3 v2; int_lin_eq [ 1 1 ] [ v1 v4 ] 0; bool_not false v5; bool_eq_reif v3 v5 v6; bool_clause [ v6 ] [ ]; ",
+        ),
+        (
+            b"IGx1X<xyt#xy",
+            b"bool; bool; bool; bool; bool; bool; bool; bool; bool; int_le_reif 1 v0 v3; int_lt_reif v0 v1 v4; bool2int v5 v2; int_ne_reif v0 v1 v6; bool_xor v4 v5 v7; bool_xor v7 v6 v8; bool_clause [ v8 ] [ v3 ]; ",
+        ),
+        (
+            b"=+<xy2%/y23",
+            b"bool; bool; bool; bool; 0..1; 2..3; 0..2; 0..2; int_lt_reif v0 v1 v3; bool2int v3 v4; int_lin_eq [ 1 1 -1 ] [ v4 2 v5 ] 0; int_div v1 2 v6; int_mod v6 3 v7; int_eq v5 v7; ",
+        ),
+        (
+            b"AAt10#xyqtt",
+            b"bool; bool; bool; bool; bool; bool; bool; bool2int v3 v2; bool_clause [ v3 ] [ ]; bool_clause [ true ] [ ]; bool_clause [ false ] [ ]; int_ne v0 v1; bool2int v4 v2; bool2int v5 v2; bool_eq_reif v4 v5 v6; bool_clause [ v6 ] [ ]; ",
+        ),
+        (
+            b"Ex^y3Mx-xy",
+            b"bool; bool; bool; 0..25; 0..125; -7..3; -2..3; int_times v1 v1 v3; int_times v3 v1 v4; int_lin_eq [ 1 -1 -1 ] [ v0 v1 v5 ] 0; array_int_maximum v6 [ v0 v5 ]; int_eq v0 v4; int_eq v4 v6; ",
+        ),
+        (
+            b"|=*xym2xxoxS4y",
+            b"bool; bool; bool; -10..15; -4..6; -12..18; bool; bool; bool; bool; bool; int_times v0 v1 v3; int_times 2 v0 v4; int_times v4 v0 v5; int_eq_reif v3 v5 v6; int_eq_reif v0 4 v7; int_eq_reif v0 v1 v8; array_bool_or [ v7 v8 ] v9; bool_not v9 v10; bool_clause [ v6 v10 ] [ ]; ",
+        ),
+    ];
+    for (text, wanted) in cases {
+        let e = built(rt.alloc(), text)?;
+        assert_eq!(rt; stated(rt.alloc(), &e)?.as_slice(), wanted);
+    }
     let inst = one_bit(rt.alloc())?;
     let mut named = Row::new(rt.alloc());
     named.push(auxiliary(rt.alloc(), 0, false, Span::new(0, 1).unwrap())?)?;
     let mut held = Held::new(rt.alloc(), named);
-    lower(
-        rt.alloc(),
-        &inst.constraints.as_slice()[0],
-        &inst,
-        &mut held,
-    )?;
+    lower(rt.alloc(), &x(), &inst, &mut held)?;
     let model = held.finish(Goal::Satisfy);
     assert_eq!(rt;
         written(rt.alloc(), &model)?.as_slice(),

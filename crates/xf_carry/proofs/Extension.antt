@@ -2,7 +2,9 @@
 use Rattle.std.proofs.Common.{◌≡◌, ℕ, suc, ◌+◌, ◌≤◌, ℤ, pos, List, [], ◌∷◌, ◌++◌, length, map, take, refl, ap, sym, subst, ◌∙◌, arith, append-nil}
 use Rattle.std.proofs.lemmas.List.{map-append, ext_get_or, get_or_append_left, take_all, length-append}
 use Rattle.std.proofs.Math.Seq.{take-append_seam}
-use Rattle.xf_problem.specs.Problem.{Extends, ExtendsOnce}
+use Rattle.xf_problem.specs.Problem.{AgreeOn, Extends, ExtendsOnce}
+use Rattle.xs_model.specs.declared.instance.Objective.{Objective}
+use Rattle.std.specs.Prelude.{Option, None}
 use Rattle.xs_model.specs.declared.instance.Instance.{Instance}
 use Rattle.xs_model.specs.Names.{words, domains}
 use Rattle.xs_model.specs.Accepted.{IsSound}
@@ -19,12 +21,13 @@ use Rattle.lo_base.specs.Item.{Item, made}
 use Rattle.lo_base.specs.Lowered.{vars_of}
 use Rattle.lo_base.specs.Held.{length-vars_of}
 use Rattle.lo_base.specs.Solved as items
-use Rattle.lo_base.specs.Stepwise.{Stepwise}
+use Rattle.lo_base.specs.Stepwise.{Stepwise, AreBits}
 use Rattle.lo_base.proofs.Steps.{one_extension}
 use Rattle.lo_instance.specs.Laws.{AllHold}
-use Rattle.lo_instance.proofs.FormLemmas.{all_means, all_size, all_stepwise}
+use Rattle.lo_instance.proofs.FormLemmas.{all_lowered, all_bits}
 use Rattle.xf_carry.specs.Lowered.{low_items, model_of, LowExtends, LowExtendsOnce, LowSize}
-use Rattle.xf_carry.proofs.Members.{members_split, members_join, members_length, shown_members, members_shown, made_members, meets_calls, members_meet}
+use Rattle.xf_carry.proofs.Ordered.{few_spans, ordered_spans}
+use Rattle.xf_carry.proofs.Members.{members_split, members_join, members_length, shown_members, members_shown, made_members, meets_calls, members_meet, AreFree, free_equal, free_join, shown_free, made_free}
 
 abbrev name : FzVar → List ℕ
 name v = v.name
@@ -49,14 +52,15 @@ first_names i xs s =
     ∙ ap (λ n. take n (front ++ map name (vars_of 0 xs))) (sym (length-map_is spelled (words i.decls)))
     ∙ take-append_seam front (map name (vars_of 0 xs))
 
+-- no variable is declared to equal anything
+pub model_free : (i : Instance) (xs : List Item) → AreFree (shown_vars i.decls ++ vars_of 0 xs)
+model_free i xs = free_join (shown_vars i.decls) (vars_of 0 xs) (shown_free (words i.decls) (domains i.decls)) (made_free 0 xs)
+
 -- what a solution of the model says of the items
 meets : (i : Instance) (xs : List Item) (a c : List ℤ) → IsSound i → length a ≡ count i → flat.Solves (model_of (shown_vars i.decls) xs) (a ++ c) → (length c ≡ made xs) × items.Meets (count i) xs (a ++ c)
 meets i xs a c s len h =
     let parts = members_split (shown_vars i.decls) (vars_of 0 xs) a c (len ∙ sym (shown_count i s)) h.members in
     (members_length (vars_of 0 xs) c parts.1 ∙ length-vars_of 0 xs, members_meet (count i) 0 xs a c len parts.1 h.calls)
-
-few_spans : (i : Instance) → IsSound i → length (spans_of i.decls) ≤ count i
-few_spans i s = omega (arith, spans_words i.decls s.decls)
 
 -- values of the domains lie within the bounds
 within : (i : Instance) (a : List ℤ) → IsSound i → length a ≡ count i → xcsp.AreMembers (domains i.decls) a → BeginsWithin (spans_of i.decls) a
@@ -86,6 +90,7 @@ solves_more i xs a s means len h =
       e.more,
       record {
         members = members_join (shown_vars i.decls) (vars_of 0 xs) a e.more (shown_members (words i.decls) (domains i.decls) a (same_counts i.decls s.decls) h.members) (made_members (count i) 0 xs a e.more len e.many met);
+        equals = free_equal (a ++ e.more) (shown_vars i.decls ++ vars_of 0 xs) (a ++ e.more) (model_free i xs);
         calls = meets_calls (count i) xs (a ++ e.more) met;
       },
     )
@@ -94,7 +99,7 @@ pub model_extends : (i : Instance) (xs : List Item) → IsSound i → ItemsMean 
 model_extends i xs s means = record {
   first = first_names i xs s;
   solutions = λ a len. (λ h. solves_more i xs a s means len h, λ h. solves_first i xs a h.0 s means len h.1);
-  goal = tt;
+  goal = subst (λ (o : Option Objective). AgreeOn (xcsp.problem_of i) (flat.problem_of (model_of (shown_vars i.decls) xs)) (xcsp.goal_of o) None) (sym s.satisfied) tt;
 }
 
 -- equal behind the same front
@@ -105,25 +110,27 @@ same_behind (z ∷ a) c d k lc ld h = same_behind a c d k lc ld (λ j lt. h (suc
 agree_front : (a c d : List ℤ) → Agree (length a) (a ++ c) (a ++ d)
 agree_front a c d j lt = get_or_append_left a c (pos 0) j lt ∙ sym (get_or_append_left a d (pos 0) j lt)
 
-pub model_extends_once : (i : Instance) (xs : List Item) → IsSound i → Stepwise (count i) xs → ExtendsOnce (xcsp.problem_of i) (flat.problem_of (model_of (shown_vars i.decls) xs))
-model_extends_once i xs s steps = record {
+pub model_extends_once : (i : Instance) (xs : List Item) → IsSound i → Stepwise (count i) xs → ((b : List ℤ) → items.Meets (count i) xs b → AreBits xs b) → ExtendsOnce (xcsp.problem_of i) (flat.problem_of (model_of (shown_vars i.decls) xs))
+model_extends_once i xs s steps bits = record {
   once = λ a c d len h k.
       let hc = meets i xs a c s len h in
       let hd = meets i xs a d s len k in
       let start : Agree (count i) (a ++ c) (a ++ d) = subst (λ (n : ℕ). Agree n (a ++ c) (a ++ d)) len (agree_front a c d) in
-      let all = one_extension (count i) xs (a ++ c) (a ++ d) steps start hc.1 hd.1 in
+      let all = one_extension (count i) xs (a ++ c) (a ++ d) steps (bits (a ++ c) hc.1) (bits (a ++ d) hd.1) start hc.1 hd.1 in
       same_behind a c d (made xs) hc.0 hd.0 (subst (λ (n : ℕ). Agree (n + made xs) (a ++ c) (a ++ d)) (sym len) all);
 }
 
 pub low_extends : LowExtends
-low_extends i s = model_extends i (low_items i) s (all_means (spans_of i.decls) (count i) i.constraints s.constraints (few_spans i s))
+low_extends i s = model_extends i (low_items i) s (all_lowered (spans_of i.decls) (count i) i.constraints s.constraints (ordered_spans i s) (few_spans i s)).means
 
 pub low_extends_once : LowExtendsOnce
-low_extends_once i s = model_extends_once i (low_items i) s (all_stepwise (spans_of i.decls) (count i) i.constraints s.constraints (few_spans i s))
+low_extends_once i s =
+    model_extends_once i (low_items i) s (all_lowered (spans_of i.decls) (count i) i.constraints s.constraints (ordered_spans i s) (few_spans i s)).stepwise
+    (all_bits (spans_of i.decls) (count i) i.constraints s.constraints (ordered_spans i s) (few_spans i s))
 
 pub low_size : LowSize
 low_size i s =
     let xs : List Item = low_items i in
     let vars : length (shown_vars i.decls ++ vars_of 0 xs) ≡ count i + made xs =
     length-append (shown_vars i.decls) (vars_of 0 xs) ∙ ap (λ n. n + length (vars_of 0 xs)) (shown_count i s) ∙ ap (λ n. count i + n) (length-vars_of 0 xs) in
-    omega (arith, vars, all_size (spans_of i.decls) (count i) i.constraints)
+    omega (arith, vars, (all_lowered (spans_of i.decls) (count i) i.constraints s.constraints (ordered_spans i s) (few_spans i s)).size)

@@ -1,8 +1,9 @@
 pub mod Fronts
 pub mod Members
 pub mod Extension
+pub mod Soundness
 pub mod Before
+pub mod Ordered
 pub mod Room
 pub mod Steps
 pub mod Text
-pub mod Examples

@@ -1,10 +1,11 @@
 -- Values of variables: of named ones and of those that items make.
-use Rattle.std.proofs.Common.{◌≡◌, ℕ, zero, suc, ◌+◌, inl, inr, ⊎_elim, ℤ, pos, negsuc, ◌≤ℤ◌, List, [], ◌∷◌, ◌++◌, length, refl, sym, subst, arith, append_assoc}
+use Rattle.std.proofs.Common.{◌≡◌, ℕ, zero, suc, ◌+◌, inl, inr, ⊎_elim, ℤ, pos, negsuc, ◌≤ℤ◌, Option, None, List, [], ◌∷◌, ◌++◌, length, refl, sym, subst, arith, append_assoc}
 use Rattle.std.proofs.lemmas.Int.{ints}
 use Rattle.std.proofs.lemmas.List.{get_or_at, length-append}
 use Rattle.std.specs.List.{AllByRecursion}
 use Rattle.xf_num.specs.Span.{Bounds, IsWithin}
 use Rattle.xs_model.specs.Instance as xcsp
+use Rattle.fz_model.specs.declared.model.Arg.{Arg}
 use Rattle.fz_model.specs.declared.model.FzVar.{FzVar}
 use Rattle.fz_model.specs.Fixing.{IsBit}
 use Rattle.fz_model.specs.Meaning.{at, CallHolds}
@@ -105,3 +106,27 @@ members_meet n k (Boolean ∷ xs) pre (v ∷ more) len h calls =
     let rest = members_meet (n + 1) (k + 1) xs (pre ++ v ∷ []) more (one_longer n pre v len) h.1 (subst (λ (b : List ℤ). AllByRecursion (CallHolds b) (calls_of xs)) (sym same) calls) in
     (subst IsBit (sym here) (within_bit v one.from one.to), subst (Meets (n + 1) xs) same rest)
 members_meet n k (Posted call ∷ xs) pre more len h calls = (calls.0, members_meet n k xs pre more len h calls.1)
+
+-- variables that are declared to equal nothing
+abbrev pub AreFree : List FzVar → Type 0
+AreFree vs = AllByRecursion (λ (v : FzVar). v.equal ≡ None) vs
+
+pub free_equal : (b : List ℤ) (vs : List FzVar) (zs : List ℤ) → AreFree vs → flat.AreEqual b vs zs
+free_equal b [] zs h = tt
+free_equal b (v ∷ vs) [] h = tt
+free_equal b (v ∷ vs) (z ∷ zs) h = (subst (λ (e : Option Arg). flat.IsEqual b e z) (sym h.0) tt, free_equal b vs zs h.1)
+
+pub free_join : (vs ws : List FzVar) → AreFree vs → AreFree ws → AreFree (vs ++ ws)
+free_join [] ws h k = k
+free_join (v ∷ vs) ws h k = (h.0, free_join vs ws h.1 k)
+
+pub shown_free : (ws : List (List ℕ)) (ds : List (List Bounds)) → AreFree (shown_each ws ds)
+shown_free [] ds = tt
+shown_free (w ∷ ws) [] = tt
+shown_free (w ∷ ws) (d ∷ ds) = (refl, shown_free ws ds)
+
+pub made_free : (k : ℕ) (xs : List Item) → AreFree (vars_of k xs)
+made_free k [] = tt
+made_free k (Ranged lo hi ∷ xs) = (refl, made_free (k + 1) xs)
+made_free k (Boolean ∷ xs) = (refl, made_free (k + 1) xs)
+made_free k (Posted call ∷ xs) = made_free k xs

@@ -20,7 +20,7 @@ bits = record { lo = pos 0; hi = pos 1 }
 
 module _ {W : Type 0} (holds : W → Option (List ℕ)) (faults : W → ℕ) where
   abbrev line : DeclEmit W → Bool → Bounds → List ℕ
-  line a boolean span = var_line (auxiliary (a.count - a.named) boolean span)
+  line a boolean span = var_line [] (auxiliary (a.count - a.named) boolean span)
 
   pub ranged_grew : (a b : DeclEmit W) (span : Bounds) → b.named ≡ a.named → faults a.out ≤ faults b.out → b.count ≡ a.count + 1 → Appended (holds a.out) (holds b.out) (line a false span) → DeclGrew holds faults a b (Ranged span.lo span.hi ∷ [])
   ranged_grew a b span same le more told = record { same = same; counted = more; told = subst (Appended (holds a.out) (holds b.out)) (sym (append-nil (line a false span))) told; failed = le }
@@ -64,14 +64,14 @@ module _ {W : Type 0} (holds : W → Option (List ℕ)) (faults : W → ℕ) whe
       }
 
   -- the text of all items, from an object that has made none
-  pub decl_text : (a : DeclEmit W) (items : List Item) → a.count ≡ a.named → decl_lines a.named (a.count - a.named) items ≡ flat_map var_line (vars_of 0 items)
-  decl_text a items is = let none : a.count - a.named ≡ 0 = omega (arith, is) in ap (λ k. flat_map var_line (vars_of k items)) none
+  pub decl_text : (a : DeclEmit W) (items : List Item) → a.count ≡ a.named → decl_lines a.named (a.count - a.named) items ≡ flat_map (var_line []) (vars_of 0 items)
+  decl_text a items is = let none : a.count - a.named ≡ 0 = omega (arith, is) in ap (λ k. flat_map (var_line []) (vars_of k items)) none
 
-  pub decls_grew : (a b : DeclEmit W) (items : List Item) → a.count ≡ a.named → DeclGrew holds faults a b items → Appended (holds a.out) (holds b.out) (flat_map var_line (vars_of 0 items))
+  pub decls_grew : (a b : DeclEmit W) (items : List Item) → a.count ≡ a.named → DeclGrew holds faults a b items → Appended (holds a.out) (holds b.out) (flat_map (var_line []) (vars_of 0 items))
   decls_grew a b items is g = subst (Appended (holds a.out) (holds b.out)) (decl_text a items is) g.told
 
-  pub decls_began : (a b : DeclEmit W) (items : List Item) → a.count ≡ a.named → DeclBegan holds faults a b items → AppendedFront (holds a.out) (holds b.out) (flat_map var_line (vars_of 0 items))
-  decls_began a b items is g = front_from (holds a.out) (holds b.out) g.front g.rest (flat_map var_line (vars_of 0 items)) (g.all ∙ decl_text a items is) g.told
+  pub decls_began : (a b : DeclEmit W) (items : List Item) → a.count ≡ a.named → DeclBegan holds faults a b items → AppendedFront (holds a.out) (holds b.out) (flat_map (var_line []) (vars_of 0 items))
+  decls_began a b items is g = front_from (holds a.out) (holds b.out) g.front g.rest (flat_map (var_line []) (vars_of 0 items)) (g.all ∙ decl_text a items is) g.told
 
   pub calls_began : (a b : CallEmit W) (items : List Item) → CallBegan holds faults a b items → AppendedFront (holds a.out) (holds b.out) (call_lines a.named 0 items)
   calls_began a b items g = front_from (holds a.out) (holds b.out) g.front g.rest (call_lines a.named 0 items) g.all g.told

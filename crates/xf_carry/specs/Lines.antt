@@ -1,5 +1,5 @@
 -- The lines of a lowered model, those of its auxiliaries and those of its calls (MiniZinc Handbook, "FlatZinc grammar").
-use Rattle.std.specs.Prelude.{ℕ, List, ◌++◌}
+use Rattle.std.specs.Prelude.{ℕ, List, [], ◌++◌}
 use Rattle.std.specs.List.{flat_map}
 use Rattle.fz_model.specs.declared.model.FzVar.{FzVar}
 use Rattle.fz_model.specs.declared.model.Goal.TheVariants.{Satisfy}
@@ -9,7 +9,7 @@ use Rattle.lo_base.specs.Lowered.{vars_of, calls_of}
 
 -- of the variables that the items make, the first of which is the auxiliary k; whatever the named variables are
 abbrev pub decl_lines : ℕ → ℕ → List Item → List ℕ
-decl_lines named k items = flat_map var_line (vars_of k items)
+decl_lines named k items = flat_map (var_line []) (vars_of k items)
 
 -- of the calls that the items post, whatever the next auxiliary is
 abbrev pub call_lines : List FzVar → ℕ → List Item → List ℕ

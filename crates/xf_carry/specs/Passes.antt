@@ -1,5 +1,5 @@
 -- The two objects that write a lowered model: the lines of its auxiliaries, and the lines of its calls.
-use Rattle.std.specs.Prelude.{ℕ, ◌+◌, Option, List, length, refl}
+use Rattle.std.specs.Prelude.{ℕ, ◌+◌, Option, List, [], length, refl}
 use Rattle.std.specs.List.{flat_map}
 use Rattle.std.proofs.Common.{ap, ◌∙◌}
 use Rattle.std.proofs.lemmas.Grind.{flat_map-append}
@@ -25,7 +25,7 @@ module _ {W : Type 0} (holds : W → Option (List ℕ)) (faults : W → ℕ) whe
   pub decl_laws : EmitLaws (λ (e : DeclEmit W). e.named) (λ e. e.count) (λ e. faults e.out) DeclGrew DeclBegan
   decl_laws = writing.laws (λ (e : DeclEmit W). e.out) (λ e. e.named) (λ e. e.count) (λ k. k) decl_lines holds faults (record {
     nothing = λ k n. refl;
-    in_a_row = λ k n xs ys. ap (flat_map var_line) (vars_of-append n xs ys) ∙ flat_map-append var_line (vars_of n xs) (vars_of (n + made xs) ys);
+    in_a_row = λ k n xs ys. ap (flat_map (var_line [])) (vars_of-append n xs ys) ∙ flat_map-append (var_line []) (vars_of n xs) (vars_of (n + made xs) ys);
     enough = λ e. e.enough;
   })
 

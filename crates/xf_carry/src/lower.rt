@@ -12,7 +12,7 @@ use lo_instance::lower_constraint;
 use std::alloc::Global;
 use xs_model::{Instance, spans};
 
-/// Appends the variables and calls that an accepted instance is lowered to, to an object that has exactly the
+/// Appends the variables and calls that an accepted instance that is lowered so far is lowered to, to an object that has exactly the
 /// instance's variables, and answers the model's goal. On an `Err` it began them.
 pub fn lower_all<E: Emit>(alloc: Global, inst: &Instance, out: &mut E) -> Result<Goal, EmitStop>
     requires accepted { IsAccepted inst.now }

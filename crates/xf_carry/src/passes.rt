@@ -1,6 +1,6 @@
 //! Objects that write the lines of what is lowered, and keep none of it.
 
-ghost use Rattle.std.specs.Prelude.{◌≡◌, ◌≤◌, ◌<◌, ◌^◌, ◌-◌, ◌+◌, length, IfOk, OnOk, OnErr, IsErrOf};
+ghost use Rattle.std.specs.Prelude.{◌≡◌, [], ◌≤◌, ◌<◌, ◌^◌, ◌-◌, ◌+◌, length, IfOk, OnOk, OnErr, IsErrOf};
 ghost use Rattle.fz_file.specs.Layout.{var_line, call_line, goal_line, names_of};
 ghost use Rattle.lo_base.specs.Lowered.{auxiliary};
 ghost use Rattle.xf_text.specs.Outside.{Appended, AppendedFront, Rose};
@@ -77,15 +77,15 @@ impl<W: Sink> DeclEmit<W> {
         ensures named { self.new.named ≡ self.old.named }
         ensures counted { OnOk result (self.new.count ≡ self.old.count + 1) }
         ensures uncounted { OnErr result (self.new.count ≡ self.old.count) }
-        ensures ok { OnOk result (Appended (W.holds self.old.out) (W.holds self.new.out) (var_line (auxiliary (self.old.count - self.old.named) boolean span))) }
-        ensures front { OnErr result (AppendedFront (W.holds self.old.out) (W.holds self.new.out) (var_line (auxiliary (self.old.count - self.old.named) boolean span))) }
+        ensures ok { OnOk result (Appended (W.holds self.old.out) (W.holds self.new.out) (var_line [] (auxiliary (self.old.count - self.old.named) boolean span))) }
+        ensures front { OnErr result (AppendedFront (W.holds self.old.out) (W.holds self.new.out) (var_line [] (auxiliary (self.old.count - self.old.named) boolean span))) }
         ensures faults { W.faults self.old.out ≤ W.faults self.new.out }
         ensures cause { IsErrOf result EmitStop.Failed → Rose (W.faults self.old.out) (W.faults self.new.out) }
     {
         let number = self.count;
         let var = auxiliary(self.alloc, number - self.named, boolean, span)?;
         self.line.clear();
-        push_var(&mut self.line, &var)?;
+        push_var(&mut self.line, &var, &[])?;
         write_line(&mut self.out, &self.line)?;
         self.count += 1;
         Ok(number)

@@ -1,6 +1,6 @@
 //! The text of a lowered instance.
 
-ghost use Rattle.std.specs.Prelude.{◌≡◌, ◌≤◌, length, OnOk, OnErr, IsErrOf};
+ghost use Rattle.std.specs.Prelude.{◌≡◌, [], ◌≤◌, length, OnOk, OnErr, IsErrOf};
 ghost use Rattle.std.specs.List.{flat_map};
 ghost use Rattle.fz_file.specs.Layout.{layout, var_line};
 ghost use Rattle.lo_base.specs.Lowered.{vars_of};
@@ -21,10 +21,10 @@ use std::alloc::Global;
 use xf_text::Sink;
 use xs_model::Instance;
 
-/// Writes the FlatZinc text of an accepted instance, line by line, and gives the sink back. On an `Err` a front
+/// Writes the FlatZinc text of an accepted instance that is lowered so far, line by line, and gives the sink back. On an `Err` a front
 /// of the text was written; `Failed` comes only where the sink failed.
 pub fn write_lowered<W: Sink>(alloc: Global, inst: &Instance, out: W) -> (Result<(), EmitStop>, W)
-    requires { IsAccepted inst.now }
+    requires accepted { IsAccepted inst.now }
     ensures count { W.faults out ≤ W.faults result.1 }
     ensures ok { OnOk result.0 (Appended (W.holds out) (W.holds result.1) (layout (low inst.now))) }
     ensures front { OnErr result.0 (AppendedFront (W.holds out) (W.holds result.1) (layout (low inst.now))) }
@@ -66,8 +66,8 @@ fn write_vars<W: Sink>(
     requires accepted { IsAccepted inst.now }
     requires named { named.now ≡ shown_vars inst.now.decls }
     ensures count { W.faults out ≤ W.faults result.1 }
-    ensures ok { OnOk result.0 (Appended (W.holds out) (W.holds result.1) (flat_map var_line (low inst.now).vars)) }
-    ensures front { OnErr result.0 (AppendedFront (W.holds out) (W.holds result.1) (flat_map var_line (low inst.now).vars)) }
+    ensures ok { OnOk result.0 (Appended (W.holds out) (W.holds result.1) (flat_map (var_line []) (low inst.now).vars)) }
+    ensures front { OnErr result.0 (AppendedFront (W.holds out) (W.holds result.1) (flat_map (var_line []) (low inst.now).vars)) }
     ensures cause { IsErrOf result.0 EmitStop.Failed → Rose (W.faults out) (W.faults result.1) }
 {
     let mut out = out;
@@ -80,14 +80,14 @@ fn write_vars<W: Sink>(
 // The lines of the instance's variables.
 fn write_named<W: Sink>(alloc: Global, named: &[FzVar], out: &mut W) -> Result<(), EmitStop>
     ensures count { W.faults out.old ≤ W.faults out.new }
-    ensures ok { OnOk result (Appended (W.holds out.old) (W.holds out.new) (flat_map var_line named.now)) }
-    ensures front { OnErr result (AppendedFront (W.holds out.old) (W.holds out.new) (flat_map var_line named.now)) }
+    ensures ok { OnOk result (Appended (W.holds out.old) (W.holds out.new) (flat_map (var_line []) named.now)) }
+    ensures front { OnErr result (AppendedFront (W.holds out.old) (W.holds out.new) (flat_map (var_line []) named.now)) }
     ensures cause { IsErrOf result EmitStop.Failed → Rose (W.faults out.old) (W.faults out.new) }
 {
     let mut line = Vec::new(alloc);
     for var in named {
         line.clear();
-        push_var(&mut line, var)?;
+        push_var(&mut line, var, &[])?;
         write_line(out, &line)?;
     }
     Ok(())
@@ -103,8 +103,8 @@ fn write_auxiliaries<W: Sink>(
     requires accepted { IsAccepted inst.now }
     requires named { named ≡ length (words inst.now.decls) }
     ensures count { W.faults out ≤ W.faults result.1 }
-    ensures ok { OnOk result.0 (Appended (W.holds out) (W.holds result.1) (flat_map var_line (vars_of 0 (low_items inst.now)))) }
-    ensures front { OnErr result.0 (AppendedFront (W.holds out) (W.holds result.1) (flat_map var_line (vars_of 0 (low_items inst.now)))) }
+    ensures ok { OnOk result.0 (Appended (W.holds out) (W.holds result.1) (flat_map (var_line []) (vars_of 0 (low_items inst.now)))) }
+    ensures front { OnErr result.0 (AppendedFront (W.holds out) (W.holds result.1) (flat_map (var_line []) (vars_of 0 (low_items inst.now)))) }
     ensures cause { IsErrOf result.0 EmitStop.Failed → Rose (W.faults out) (W.faults result.1) }
 {
     let mut emit = DeclEmit::new(alloc, named, out);

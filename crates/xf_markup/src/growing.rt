@@ -152,7 +152,8 @@ impl Growing {
         ensures sound { OnOk result (IsSound self.new self.new.outer) }
     {
         self.flush(alloc)?;
-        let pieces = mem::replace(&mut self.pieces, Row::new(alloc));
+        let mut pieces = mem::replace(&mut self.pieces, Row::new(alloc));
+        pieces.shrink_to_fit();
         let Frame {
             name,
             attrs,

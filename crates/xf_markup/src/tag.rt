@@ -161,9 +161,7 @@ fn end(bytes: &[u8]) -> Option<(bool, &[u8])>
 pub fn copied(alloc: Global, bytes: &[u8]) -> Result<Text, NoMemory>
     ensures { IfOk result (λ text. text ≡ bytes.now) }
 {
-    let mut text = Row::new(alloc);
-    text.extend(bytes)?;
-    Ok(text)
+    Row::from_slice(alloc, bytes)
 }
 
 /// An open or empty tag: the length of its name, its attributes, and its whole length.
@@ -187,12 +185,15 @@ pub fn open_tag(alloc: Global, bytes: &[u8]) -> Result<Option<Tag>, NoMemory>
     };
     let mut attrs = Row::new(alloc);
     match tail(alloc, rest, &mut attrs)? {
-        Some((is_empty, after)) => Ok(Some(Tag {
-            name: name.len(),
-            attrs,
-            is_empty,
-            size: bytes.len() - after.len(),
-        })),
+        Some((is_empty, after)) => {
+            attrs.shrink_to_fit();
+            Ok(Some(Tag {
+                name: name.len(),
+                attrs,
+                is_empty,
+                size: bytes.len() - after.len(),
+            }))
+        }
         None => Ok(None),
     }
 }

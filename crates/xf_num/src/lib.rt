@@ -6,6 +6,7 @@
 #![tactic(auto)]
 
 mod domain;
+mod limits;
 mod memory;
 mod row;
 mod span;
@@ -14,6 +15,7 @@ mod stack;
 mod tests;
 
 pub use domain::{Domain, DomainFault};
+pub use limits::{MAX_BYTES, MAX_CONSTRAINTS, MAX_ITEMS, MAX_MAGNITUDE, MAX_VARIABLES};
 pub use memory::NoMemory;
 pub use row::{Ints, Row, Text, Vars};
 pub use span::{Span, Spans};

@@ -5,9 +5,6 @@ use std::alloc::Global;
 use std::marker::Model;
 use std::mem;
 
-/// Rows up to this length take no more room than their items.
-const SHORT: usize = 4;
-
 /// A list that contracts see as the list of its items.
 #[derive(Debug, Drop)]
 pub struct Row<T> {
@@ -40,6 +37,21 @@ impl<T> Row<T> {
         }
     }
 
+    /// An empty row with room for so many items and no more.
+    pub fn with_room(alloc: Global, count: usize) -> Result<Row<T>, NoMemory>
+        ensures { IfOk result (λ row. row ≡ []) }
+    {
+        let items = Vec::with_capacity(alloc, count)?;
+        Ok(Row { items })
+    }
+
+    /// Gives back the room that is not taken.
+    pub fn shrink_to_fit(&mut self)
+        ensures { self.new ≡ self.old }
+    {
+        self.items.shrink_to_fit();
+    }
+
     pub fn as_slice(&self) -> &[T]
         ensures { result.now ≡ self.now }
     {
@@ -69,15 +81,11 @@ impl<T> Row<T> {
 }
 
 impl<T: Drop> Row<T> {
-    /// Appends the item, or drops it and changes nothing. Room for the first few is made for each alone, since many
-    /// rows stay that short.
+    /// Appends the item, or drops it and changes nothing. The first makes room for a few.
     pub fn push(&mut self, item: T) -> Result<(), NoMemory>
         ensures ok { OnOk result (self.new ≡ self.old ++ item ∷ []) }
         ensures err { OnErr result (self.new ≡ self.old) }
     {
-        if self.items.len() < SHORT {
-            self.items.reserve_exact(1)?;
-        }
         self.items.push(item)?;
         Ok(())
     }
@@ -91,6 +99,14 @@ impl<T: Drop> Row<T> {
 }
 
 impl<T: Copy> Row<T> {
+    /// A row of these items, with no room to spare.
+    pub fn from_slice(alloc: Global, items: &[T]) -> Result<Row<T>, NoMemory>
+        ensures { IfOk result (λ row. row ≡ items.now) }
+    {
+        let items = Vec::from_slice(alloc, items)?;
+        Ok(Row { items })
+    }
+
     /// Appends the items, or changes nothing.
     pub fn extend(&mut self, more: &[T]) -> Result<(), NoMemory>
         ensures ok { OnOk result (self.new ≡ self.old ++ more.now) }

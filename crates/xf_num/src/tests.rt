@@ -159,7 +159,7 @@ fn no_piece_is_no_domain(rt: HostRuntime) {
 #[test]
 fn a_domain_of_one_range(rt: HostRuntime) -> Result<(), Fail> {
     if let Some(span) = Span::new(3, 5) {
-        let domain = Domain::of(span, rt.alloc())?;
+        let domain = Domain::of(rt.alloc(), span)?;
         assert_eq!(rt; domain.least(), 3);
         assert_eq!(rt; domain.greatest(), 5);
     }

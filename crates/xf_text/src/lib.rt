@@ -15,4 +15,4 @@ pub use fault::{Fault, FieldStop, Kind, Stop};
 pub use memory::{MemShelf, MemSink, SureShelf, SureSink};
 pub use number::{NumberStop, read_int};
 pub use outside::{Failed, Files, Shelf, Sink, Stored};
-pub use whole::{MAX_BYTES, ReadStop, read_file, write_whole};
+pub use whole::{ReadStop, read_file, write_whole};

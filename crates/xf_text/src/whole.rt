@@ -7,9 +7,7 @@ ghost use Rattle.xf_text.specs.declared.whole.ReadStop.TheVariants.{Failed as Fa
 use crate::outside::{Failed, Shelf, Sink};
 use std::alloc::{AllocError, Global};
 use thiserror::Error;
-
-/// The most bytes that a file may have: 64 MiB.
-pub const MAX_BYTES: usize = 67_108_864;
+use xf_num::MAX_BYTES;
 
 /// The most bytes that are asked for at once.
 const BLOCK_BYTES: usize = 65_536;

@@ -1,3 +1,3 @@
-pub mod ReadingLemmas
-pub mod EndLemmas
+pub mod RowLemmas
 pub mod ConversionLemmas
+pub mod WrittenLemmas

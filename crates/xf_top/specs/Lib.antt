@@ -1,5 +1,5 @@
-pub mod Words
-pub mod Answers
-pub mod Outcome
-pub mod Ends
-pub mod Theorem
+pub mod Formats
+pub mod Commands
+pub mod Promises
+pub mod Runs
+pub mod Texts

@@ -17,15 +17,9 @@ ghost use Rattle.xs_array.specs.Reading.{HasContent, same_cells};
 use crate::owners::{child_cells, copied_cell};
 use std::alloc::Global;
 use xf_markup::Node;
-use xf_num::{Domain, NoMemory, Row};
+use xf_num::{Domain, MAX_ITEMS, MAX_VARIABLES, NoMemory, Row};
 use xs_model::{Cells, Decl, Names};
 use xs_var::{attribute, has_no_child, single_domain, text_domain, text_of, values_of};
-
-/// The greatest number of variables and array cells.
-pub const MOST_CELLS: u64 = 1_048_576;
-
-/// The greatest number of values of domains that are counted.
-pub const MOST_VALUES: u64 = 4_194_304;
 
 /// Whether each size is at least 1.
 pub fn are_positive(sizes: &[i128]) -> bool
@@ -46,11 +40,15 @@ fn times(count: u64, size: i128) -> Option<u64>
     requires size { pos 1 ≤ℤ size }
     ensures { SomeIff result (count * places_of size ≤ most_cells) (count * places_of size) }
 {
-    if size > i128::from(MOST_CELLS) {
+    if size > i128::from(MAX_VARIABLES) {
         return None;
     }
     let next = count * size as u64;
-    if next <= MOST_CELLS { Some(next) } else { None }
+    if next <= MAX_VARIABLES {
+        Some(next)
+    } else {
+        None
+    }
 }
 
 /// The number of cells, where it is at most the greatest.
@@ -72,7 +70,7 @@ pub fn cell_count(sizes: &[i128]) -> Option<u64>
 fn equal_cells(alloc: Global, domain: &Option<Domain>, count: u64) -> Result<Cells, NoMemory>
     ensures { IfOk result (λ cells. cells ≡ replicate count domain.now) }
 {
-    let mut cells = Row::new(alloc);
+    let mut cells = Row::with_room(alloc, count as usize)?;
     for _ in 0..count {
         cells.push(copied_cell(alloc, domain)?)?;
     }
@@ -83,7 +81,7 @@ fn equal_cells(alloc: Global, domain: &Option<Domain>, count: u64) -> Result<Cel
 fn copied_cells(alloc: Global, cells: &[Option<Domain>]) -> Result<Cells, NoMemory>
     ensures { IfOk result (λ copy. copy ≡ cells.now) }
 {
-    let mut copy = Row::new(alloc);
+    let mut copy = Row::with_room(alloc, cells.len())?;
     for cell in cells {
         copy.push(copied_cell(alloc, cell)?)?;
     }

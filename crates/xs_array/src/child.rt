@@ -4,9 +4,10 @@ ghost use Rattle.std.specs.Prelude.{◌≡◌, ◌<◌, ◌^◌, ◌++◌, IfOk}
 ghost use Rattle.std.specs.List.{AllByRecursion, flat_map, list_all};
 ghost use Rattle.std.specs.Option.{option_map};
 ghost use Rattle.xs_fields.specs.Conditions.{first_missed};
+ghost use Rattle.xs_fields.specs.Lists.{pieces_meet};
 ghost use Rattle.xs_fields.specs.Words.{words_of};
 ghost use Rattle.xs_model.specs.Sound.{IsSize, cell_count};
-ghost use Rattle.xs_var.specs.Elements.{children_of};
+ghost use Rattle.xs_var.specs.Elements.{children_of, text_in};
 ghost use Rattle.xs_array.specs.ArrayUnit.{domains_meet};
 ghost use Rattle.xs_array.specs.DomainChild.{cell_word_meets, cell_words_meet, domain_child_meets, for_meets, is_cell_word, is_others, word_places};
 ghost use Rattle.xs_array.specs.Owners.{IsCellWord};
@@ -19,7 +20,7 @@ use xs_fields::{
     Condition, Word, are_inside, covered, earlier, is_blank, judge_pieces, judge_word, next_word,
     read_word,
 };
-use xs_var::{attribute, has_no_child, judge_naming, judge_spelling, text_of};
+use xs_var::{attribute, has_no_child, judge_naming, judge_spelling, one_text, text_of};
 
 /// Whether the value of `for` is the one word `others`.
 pub fn is_others(text: &[u8]) -> bool
@@ -104,10 +105,23 @@ fn judge_domain_child(
 ) -> Result<Option<Condition>, NoMemory>
     ensures { IfOk result (λ missed. missed ≡ first_missed (domain_child_meets name.now sizes.now node.now)) }
 {
-    let text = text_of(alloc, node)?;
     let cells = attribute(node.attrs.as_slice(), b"for");
     let named = judge_for(alloc, name, sizes, cells)?;
-    Ok(earlier(named, judge_pieces(text.as_slice())))
+    let text = judge_text(alloc, node)?;
+    Ok(earlier(named, text))
+}
+
+// What the domain text of an element misses first.
+fn judge_text(alloc: Global, node: &Node) -> Result<Option<Condition>, NoMemory>
+    ensures { IfOk result (λ missed. missed ≡ first_missed (pieces_meet (text_in node.now.pieces))) }
+{
+    match one_text(node.pieces.as_slice()) {
+        Some(text) => Ok(judge_pieces(text)),
+        None => {
+            let text = text_of(alloc, node)?;
+            Ok(judge_pieces(text.as_slice()))
+        }
+    }
 }
 
 // What the children miss first, all `domain`.

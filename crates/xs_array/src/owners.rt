@@ -12,7 +12,7 @@ use std::alloc::Global;
 use xf_markup::{Node, Piece};
 use xf_num::{Domain, NoMemory, Row};
 use xs_model::Cells;
-use xs_var::{attribute, text_domain, text_of};
+use xs_var::{attribute, one_text, text_domain, text_of};
 
 // Whether no cell at these places is named yet.
 fn are_free(owners: &[usize], places: &[u64]) -> bool
@@ -93,8 +93,17 @@ fn claim_child(
 fn child_domain(alloc: Global, node: &Node) -> Result<Option<Domain>, NoMemory>
     ensures { IfOk result (λ domain. domain ≡ child_domain node.now) }
 {
-    let text = text_of(alloc, node)?;
-    text_domain(alloc, text.as_slice())
+    match one_text(node.pieces.as_slice()) {
+        Some(text) => {
+            let domain = text_domain(alloc, text)?;
+            Ok(domain)
+        }
+        None => {
+            let text = text_of(alloc, node)?;
+            let domain = text_domain(alloc, text.as_slice())?;
+            Ok(domain)
+        }
+    }
 }
 
 /// What is known of the `domain` children of an array.
@@ -179,7 +188,7 @@ fn picked_cells(
     requires { AllByRecursion (λ k. k ≤ length domains.now) owners.now }
     ensures { IfOk result (λ cells. cells ≡ map (picked domains.now) owners.now) }
 {
-    let mut cells = Row::new(alloc);
+    let mut cells = Row::with_room(alloc, owners.len())?;
     for owner in owners {
         cells.push(picked(alloc, domains, *owner)?)?;
     }

@@ -12,14 +12,11 @@ ghost use Rattle.xs_var.specs.Variable.{names_meet};
 ghost use Rattle.xs_array.specs.Cells.{stated_sizes};
 ghost use Rattle.xs_var.specs.Taken.{IsSoundTaken, IsTaken};
 
-use crate::cells::{
-    Content, MOST_CELLS, MOST_VALUES, are_positive, cell_count, count_values, has_cell,
-    read_content,
-};
+use crate::cells::{Content, are_positive, cell_count, count_values, has_cell, read_content};
 use crate::fields::{array_name, judge_array_fields, stated_sizes};
 use std::alloc::Global;
 use xf_markup::Node;
-use xf_num::{Ints, NoMemory};
+use xf_num::{Ints, MAX_ITEMS, MAX_VARIABLES, NoMemory};
 use xs_fields::{Condition, earlier};
 use xs_model::{Decl, Names};
 use xs_var::{Counted, judge_names};
@@ -74,7 +71,7 @@ fn read_cells(
     }
     match cell_count(sizes.as_slice()) {
         Some(count) => {
-            if cells + count > MOST_CELLS {
+            if cells + count > MAX_VARIABLES {
                 return Ok(Err(Condition::Counting));
             }
             let content = read_content(alloc, node, decls, names, sizes.as_slice(), count)?;
@@ -98,7 +95,7 @@ fn declared(
 {
     let full = content.full;
     match content.cells {
-        Some(items) => match count_values(items.as_slice(), MOST_VALUES - values) {
+        Some(items) => match count_values(items.as_slice(), MAX_ITEMS - values) {
             Some(more) => {
                 if !full || !has_cell(items.as_slice()) {
                     return Ok(Err(Condition::Fitting));

@@ -15,3 +15,4 @@ pub mod Named
 pub mod Shapes
 pub mod TokenLemmas
 pub mod WordLemmas
+pub mod Nodes

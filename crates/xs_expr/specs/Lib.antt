@@ -1,7 +1,6 @@
 pub mod Operands
 pub mod Worths
 pub mod Laws
-pub mod Weights
 pub mod Text
 pub mod Depth
 pub mod Operators

@@ -1,9 +1,9 @@
-//! Expressions of XCSP3-core: their bounds, their values, their magnitudes, how they are written, and the parts from
-//! which a text is read.
+//! Expressions of XCSP3-core: their bounds, their values, how they are written, and the parts from which a text is read.
 //!
 //! It stands on `xf_num`, `xf_text`, `xf_problem`, `xs_model`, `xs_fields` and `itoa`. `xs_model` says which expressions
-//! are well formed, what the bounds of one are and which node of it is at fault, and what the magnitude of a constraint
-//! is; `specs/Text.antt` says how an expression is written. The calls answer exactly these. `value` is the value that `xs_model` defines, for
+//! are well formed, what the bounds of one are and which node of it is at fault; `specs/Text.antt` says how an expression
+//! is written. The calls answer exactly these. `Operands` gathers the bounds of a node's operands one after the other,
+//! for a caller that walks an expression itself. `value` is the value that `xs_model` defines, for
 //! every expression of which no node is at fault at the given values, and `values_are_bounded` says that this is so
 //! at all values within bounds at which no node is at fault, and that the value then lies within the expression's
 //! bounds.
@@ -15,7 +15,6 @@
 
 mod depth;
 mod limits;
-mod magnitude;
 mod operators;
 mod shape;
 #[cfg(test)]
@@ -26,8 +25,7 @@ mod words;
 mod worth;
 
 pub use depth::is_too_deep;
-pub use limits::bounds;
-pub use magnitude::{judge, mag};
+pub use limits::{Operands, bounds, is_truth, limited, only};
 pub use operators::operator;
 pub use shape::is_shaped;
 pub use text::write_expr;

@@ -5,16 +5,16 @@ ghost use Rattle.xs_model.specs.Shape.{IsShaped, IsExponent};
 ghost use Rattle.xs_expr.specs.Operands.{joined, pushed, none, gathered_of, extended, node_of, logic_of};
 ghost use Rattle.xs_model.specs.Value.{exponent_of};
 
-use xf_num::Span;
+use xf_num::{MAX_MAGNITUDE, Span};
 use xf_text::Kind;
 use xs_model::{Expr, Op};
 
 /// The greatest magnitude of an integer.
-const MAGNITUDE: i128 = (1 << 126) - 1;
+const MAGNITUDE: i128 = MAX_MAGNITUDE as i128;
 
-/// What a node asks of its operands' bounds.
+/// What a node asks of its operands' bounds, gathered operand by operand.
 #[derive(Clone, Copy)]
-pub(crate) struct Operands {
+pub struct Operands {
     first: Span,
     second: Span,
     third: Span,
@@ -24,7 +24,8 @@ pub(crate) struct Operands {
     are_truths: bool,
 }
 
-pub(crate) fn only(value: i128) -> Span
+/// The bounds of a value.
+pub fn only(value: i128) -> Span
     ensures { result ≡ exactly value }
 {
     Span::new(value, value).unwrap()
@@ -37,7 +38,8 @@ fn truths() -> Span
     Span::new(0, 1).unwrap()
 }
 
-pub(crate) fn is_truth(span: Span) -> bool
+/// Whether bounds are those of a truth value: within 0 and 1.
+pub fn is_truth(span: Span) -> bool
     ensures { result ≡ is_truth span }
 {
     span.lo() >= 0 && span.hi() <= 1
@@ -49,8 +51,8 @@ fn is_divisible(dividend: Span, divisor: Span) -> bool
     dividend.lo() >= 0 && divisor.lo() >= 1
 }
 
-/// The bounds, where they are within the greatest magnitude.
-pub(crate) fn limited(span: Span) -> Result<Span, Kind>
+/// The bounds, where they are within the greatest magnitude; else F10.
+pub fn limited(span: Span) -> Result<Span, Kind>
     ensures { result ≡ limited span }
 {
     if span.lo() >= -MAGNITUDE && span.hi() <= MAGNITUDE {
@@ -104,7 +106,7 @@ fn joined(op: Op, a: Span, b: Span) -> Result<Span, Kind>
 }
 
 impl Operands {
-    pub(crate) fn none() -> Operands
+    pub fn none() -> Operands
         ensures { result ≡ none }
     {
         Operands {
@@ -117,7 +119,7 @@ impl Operands {
     }
 
     /// With the operand at a place, which is the next.
-    pub(crate) fn push(self, op: Op, at: usize, next: Span) -> Operands
+    pub fn push(self, op: Op, at: usize, next: Span) -> Operands
         ensures { result ≡ pushed op at self next }
     {
         let first = if at == 0 { next } else { self.first };
@@ -186,7 +188,7 @@ impl Operands {
     }
 
     /// The bounds of a node over these operands.
-    pub(crate) fn node(self, op: Op) -> Result<Span, Kind>
+    pub fn node(self, op: Op) -> Result<Span, Kind>
         requires { op ≡ Op.Pow → IsExponent self.second.lo }
         ensures { result ≡ node_of op self }
     {

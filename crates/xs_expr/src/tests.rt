@@ -6,62 +6,20 @@ ghost use Rattle.xs_model.specs.Names.{words};
 ghost use Rattle.xs_model.specs.Sound.{IsSmall, IsSoundDecl};
 ghost use Rattle.xs_model.specs.declared.decl.Decl.{Decl};
 
-use crate::limits::{is_truth, only};
+use crate::limits::only;
 use crate::shape::is_set;
 use crate::{
-    bounds, is_exponent_word, is_shaped, is_too_deep, judge, mag, next_token, operator, value,
-    write_expr,
+    bounds, is_exponent_word, is_shaped, is_too_deep, next_token, operator, value, write_expr,
 };
 use std::alloc::Global;
 use std::str;
 use std::test::Fail;
-use xf_num::{Domain, NoMemory, Row, Span, Stack, Text, Vars};
+use xf_num::{Domain, NoMemory, Row, Span, Stack, Text};
 use xf_text::Kind;
-use xs_model::{Cells, Constraint, Decl, Decls, Expr, Op};
+use xs_model::{Cells, Decl, Decls, Expr, Op};
 
 /// 2^126 - 1, the greatest magnitude.
 const MOST: i128 = (1 << 126) - 1;
-
-fn list(alloc: Global, variables: &[u32]) -> Result<Vars, Fail>
-    ensures { IfOk result (λ row. row ≡ variables.now) }
-{
-    let mut row = Row::new(alloc);
-    row.extend(variables)?;
-    Ok(row)
-}
-
-// The magnitude and the judgement of a list of two variables within these ends.
-fn judged(
-    alloc: Global,
-    first: (i128, i128),
-    second: (i128, i128),
-) -> Result<(Option<i128>, Result<(), Kind>), Fail> {
-    let (Some(a), Some(b)) = (Span::new(first.0, first.1), Span::new(second.0, second.1)) else {
-        return Ok((None, Err(Kind::Shape)));
-    };
-    let spans = [a, b];
-    let constraint = Constraint::AllDifferent {
-        list: list(alloc, &[0, 1])?,
-    };
-    Ok((mag(&constraint, &spans), judge(&constraint, &spans)))
-}
-
-#[test]
-fn magnitudes_of_lists(rt: HostRuntime) -> Result<(), Fail> {
-    let alloc = rt.alloc();
-    assert_eq!(rt; judged(alloc, (0, 3), (-5, 2))?, (Some(12), Ok(())));
-    assert_eq!(rt; judged(alloc, (0, 0), (0, 0))?, (Some(4), Ok(())));
-    assert_eq!(rt; judged(alloc, (0, MOST - 4), (0, 0))?, (Some(MOST), Ok(())));
-    assert_eq!(rt;
-        judged(alloc, (0, MOST - 4), (0, 1))?,
-        (None, Err(Kind::Range))
-    );
-    assert_eq!(rt;
-        judged(alloc, (-MOST, 0), (-MOST, 0))?,
-        (None, Err(Kind::Range))
-    );
-    Ok(())
-}
 
 #[test]
 fn depths(rt: HostRuntime) {
@@ -292,182 +250,133 @@ fn valued(alloc: Global, text: &[u8]) -> Result<Option<i128>, NoMemory> {
     }
 }
 
-// The judgement of an expression that is to hold.
-fn judged_expression(alloc: Global, text: &[u8]) -> Result<Result<(), Kind>, NoMemory> {
-    let spans = spans();
-    match read(alloc, text)? {
-        Some(e) if is_formed(&e, 3) => {
-            let constraint = Constraint::Intension { expr: e };
-            Ok(judge(&constraint, &spans))
-        }
-        _ => Ok(Err(Kind::Syntax)),
-    }
-}
-
-// The magnitude of an expression that is a truth value and of which no node is at fault. An expression of another
-// kind has the magnitude 0.
-fn weighed(alloc: Global, text: &[u8]) -> Result<Option<i128>, NoMemory> {
-    let spans = spans();
-    match read(alloc, text)? {
-        Some(e) if is_formed(&e, 3) => match bounds(&e, &spans) {
-            Ok(span) if is_truth(span) => {
-                let constraint = Constraint::Intension { expr: e };
-                Ok(mag(&constraint, &spans))
-            }
-            _ => Ok(Some(0)),
-        },
-        _ => Ok(Some(0)),
-    }
-}
-
+// Bounds of numbers, then of truth values, also where the operands' bounds leave only one of the two; faults of
+// operands, and of magnitude, where 2^100 and 2^126 - 1 stand in some texts. Some have a second fault, in a later
+// operand or in the node. Last, bounds up to the greatest magnitude.
 #[test]
-fn bounds_of_numbers(rt: HostRuntime) -> Result<(), Fail> {
-    let cases: [(&[u8], (i128, i128)); 27] = [
-        (b"-7", (-7, -7)),
-        (b"x", (-2, 3)),
-        (b"neg(x)", (-3, 2)),
-        (b"abs(x)", (0, 3)),
-        (b"abs(sub(x,7))", (4, 9)),
-        (b"sqr(x)", (0, 9)),
-        (b"add(x,y)", (-2, 8)),
-        (b"add(x,y,-4)", (-6, 4)),
-        (b"mul(x,y)", (-10, 15)),
-        (b"mul(neg(y),neg(z))", (0, 20)),
-        (b"mul(x,x,-1)", (-9, 6)),
-        (b"sub(x,y)", (-7, 3)),
-        (b"dist(x,y)", (0, 7)),
-        (b"dist(z,9)", (5, 8)),
-        (b"div(y,z)", (0, 5)),
-        (b"div(add(y,9),z)", (2, 14)),
-        (b"mod(y,z)", (0, 3)),
-        (b"mod(2,z)", (0, 2)),
-        (b"pow(x,1)", (-2, 3)),
-        (b"pow(x,2)", (0, 9)),
-        (b"pow(x,3)", (-8, 27)),
-        (b"pow(sub(x,4),2)", (1, 36)),
-        (b"min(x,z)", (-2, 3)),
-        (b"min(x,z,2)", (-2, 2)),
-        (b"max(x,y)", (0, 5)),
-        (b"max(x,y,4)", (4, 5)),
-        (b"if(lt(x,y),x,z)", (-2, 4)),
-    ];
-    for (text, wanted) in cases {
-        assert_eq!(rt; bounded(rt.alloc(), text)?, Ok(wanted));
-    }
-    Ok(())
-}
-
-// Also where the operands' bounds leave only one of the two.
-#[test]
-fn bounds_of_truth_values(rt: HostRuntime) -> Result<(), Fail> {
-    let cases: [&[u8]; 18] = [
-        b"lt(x,9)",
-        b"le(x,y)",
-        b"gt(x,y)",
-        b"ge(x,y)",
-        b"ne(x,y)",
-        b"eq(x,x)",
-        b"eq(x,y,z)",
-        b"in(x,set(1,y))",
-        b"in(x,set())",
-        b"notin(x,set(9))",
-        b"not(lt(x,y))",
-        b"not(0)",
-        b"and(lt(x,y),1)",
-        b"or(lt(x,y),0,gt(x,y))",
-        b"xor(le(x,1),1,0)",
-        b"iff(eq(x,1),eq(y,1))",
-        b"imp(1,mod(y,2))",
-        b"imp(eq(x,1),in(z,set(1)))",
-    ];
-    for text in cases {
-        assert_eq!(rt; bounded(rt.alloc(), text)?, Ok((0, 1)));
-    }
-    Ok(())
-}
-
-#[test]
-fn faults_of_operands(rt: HostRuntime) -> Result<(), Fail> {
-    let cases: [(&[u8], Kind); 14] = [
-        (b"and(y,1)", Kind::Logic),
-        (b"or(0,x)", Kind::Logic),
-        (b"xor(1,1,z)", Kind::Logic),
-        (b"not(x)", Kind::Logic),
-        (b"iff(1,2)", Kind::Logic),
-        (b"imp(-1,1)", Kind::Logic),
-        (b"if(z,1,2)", Kind::Logic),
-        (b"div(x,z)", Kind::Division),
-        (b"div(z,y)", Kind::Division),
-        (b"mod(x,z)", Kind::Division),
-        (b"mod(z,y)", Kind::Division),
-        (b"div(not(y),x)", Kind::Logic),
-        (b"and(y,div(x,z))", Kind::Division),
-        (b"in(x,set(1,not(y),div(x,z)))", Kind::Logic),
-    ];
-    for (text, wanted) in cases {
-        assert_eq!(rt; bounded(rt.alloc(), text)?, Err(wanted));
-    }
-    Ok(())
-}
-
-// 2^100 and 2^126 - 1 stand in these texts. The last two have a second fault, in a later operand and in the node.
-#[test]
-fn faults_of_magnitude(rt: HostRuntime) -> Result<(), Fail> {
-    let cases: [&[u8]; 10] = [
-        b"add(85070591730234615865843651857942052863,1)",
-        b"add(85070591730234615865843651857942052863,1,-1)",
-        b"sub(x,85070591730234615865843651857942052863)",
-        b"dist(-85070591730234615865843651857942052863,z)",
-        b"mul(1267650600228229401496703205376,1267650600228229401496703205376,0)",
-        b"sqr(1267650600228229401496703205376)",
-        b"pow(8,42)",
-        b"pow(8,43)",
-        b"add(sqr(1267650600228229401496703205376),not(y))",
-        b"not(sqr(1267650600228229401496703205376))",
-    ];
-    for text in cases {
-        assert_eq!(rt; bounded(rt.alloc(), text)?, Err(Kind::Range));
-    }
-    assert_eq!(rt;
-        bounded(
-            rt.alloc(),
-            b"if(div(x,z),sqr(1267650600228229401496703205376),1)"
-        )?,
-        Err(Kind::Division)
-    );
-    Ok(())
-}
-
-#[test]
-fn bounds_up_to_the_greatest_magnitude(rt: HostRuntime) -> Result<(), Fail> {
-    let cases: [(&[u8], (i128, i128)); 5] = [
-        (b"85070591730234615865843651857942052863", (MOST, MOST)),
+fn bounds_and_faults(rt: HostRuntime) -> Result<(), Fail> {
+    let cases: [(&[u8], Result<(i128, i128), Kind>); 75] = [
+        (b"-7", Ok((-7, -7))),
+        (b"x", Ok((-2, 3))),
+        (b"neg(x)", Ok((-3, 2))),
+        (b"abs(x)", Ok((0, 3))),
+        (b"abs(sub(x,7))", Ok((4, 9))),
+        (b"sqr(x)", Ok((0, 9))),
+        (b"add(x,y)", Ok((-2, 8))),
+        (b"add(x,y,-4)", Ok((-6, 4))),
+        (b"mul(x,y)", Ok((-10, 15))),
+        (b"mul(neg(y),neg(z))", Ok((0, 20))),
+        (b"mul(x,x,-1)", Ok((-9, 6))),
+        (b"sub(x,y)", Ok((-7, 3))),
+        (b"dist(x,y)", Ok((0, 7))),
+        (b"dist(z,9)", Ok((5, 8))),
+        (b"div(y,z)", Ok((0, 5))),
+        (b"div(add(y,9),z)", Ok((2, 14))),
+        (b"mod(y,z)", Ok((0, 3))),
+        (b"mod(2,z)", Ok((0, 2))),
+        (b"pow(x,1)", Ok((-2, 3))),
+        (b"pow(x,2)", Ok((0, 9))),
+        (b"pow(x,3)", Ok((-8, 27))),
+        (b"pow(sub(x,4),2)", Ok((1, 36))),
+        (b"min(x,z)", Ok((-2, 3))),
+        (b"min(x,z,2)", Ok((-2, 2))),
+        (b"max(x,y)", Ok((0, 5))),
+        (b"max(x,y,4)", Ok((4, 5))),
+        (b"if(lt(x,y),x,z)", Ok((-2, 4))),
+        (b"lt(x,9)", Ok((0, 1))),
+        (b"le(x,y)", Ok((0, 1))),
+        (b"gt(x,y)", Ok((0, 1))),
+        (b"ge(x,y)", Ok((0, 1))),
+        (b"ne(x,y)", Ok((0, 1))),
+        (b"eq(x,x)", Ok((0, 1))),
+        (b"eq(x,y,z)", Ok((0, 1))),
+        (b"in(x,set(1,y))", Ok((0, 1))),
+        (b"in(x,set())", Ok((0, 1))),
+        (b"notin(x,set(9))", Ok((0, 1))),
+        (b"not(lt(x,y))", Ok((0, 1))),
+        (b"not(0)", Ok((0, 1))),
+        (b"and(lt(x,y),1)", Ok((0, 1))),
+        (b"or(lt(x,y),0,gt(x,y))", Ok((0, 1))),
+        (b"xor(le(x,1),1,0)", Ok((0, 1))),
+        (b"iff(eq(x,1),eq(y,1))", Ok((0, 1))),
+        (b"imp(1,mod(y,2))", Ok((0, 1))),
+        (b"imp(eq(x,1),in(z,set(1)))", Ok((0, 1))),
+        (b"and(y,1)", Err(Kind::Logic)),
+        (b"or(0,x)", Err(Kind::Logic)),
+        (b"xor(1,1,z)", Err(Kind::Logic)),
+        (b"not(x)", Err(Kind::Logic)),
+        (b"iff(1,2)", Err(Kind::Logic)),
+        (b"imp(-1,1)", Err(Kind::Logic)),
+        (b"if(z,1,2)", Err(Kind::Logic)),
+        (b"div(x,z)", Err(Kind::Division)),
+        (b"div(z,y)", Err(Kind::Division)),
+        (b"mod(x,z)", Err(Kind::Division)),
+        (b"mod(z,y)", Err(Kind::Division)),
+        (b"div(not(y),x)", Err(Kind::Logic)),
+        (b"and(y,div(x,z))", Err(Kind::Division)),
+        (b"in(x,set(1,not(y),div(x,z)))", Err(Kind::Logic)),
+        (
+            b"add(85070591730234615865843651857942052863,1)",
+            Err(Kind::Range),
+        ),
+        (
+            b"add(85070591730234615865843651857942052863,1,-1)",
+            Err(Kind::Range),
+        ),
+        (
+            b"sub(x,85070591730234615865843651857942052863)",
+            Err(Kind::Range),
+        ),
+        (
+            b"dist(-85070591730234615865843651857942052863,z)",
+            Err(Kind::Range),
+        ),
+        (
+            b"mul(1267650600228229401496703205376,1267650600228229401496703205376,0)",
+            Err(Kind::Range),
+        ),
+        (b"sqr(1267650600228229401496703205376)", Err(Kind::Range)),
+        (b"pow(8,42)", Err(Kind::Range)),
+        (b"pow(8,43)", Err(Kind::Range)),
+        (
+            b"add(sqr(1267650600228229401496703205376),not(y))",
+            Err(Kind::Range),
+        ),
+        (
+            b"not(sqr(1267650600228229401496703205376))",
+            Err(Kind::Range),
+        ),
+        (
+            b"if(div(x,z),sqr(1267650600228229401496703205376),1)",
+            Err(Kind::Division),
+        ),
+        (b"85070591730234615865843651857942052863", Ok((MOST, MOST))),
         (
             b"neg(85070591730234615865843651857942052863)",
-            (-MOST, -MOST),
+            Ok((-MOST, -MOST)),
         ),
         (
             b"add(85070591730234615865843651857942052862,1,-1)",
-            (MOST - 1, MOST - 1),
+            Ok((MOST - 1, MOST - 1)),
         ),
         (
             b"sub(x,85070591730234615865843651857942052861)",
-            (-MOST, 5 - MOST),
+            Ok((-MOST, 5 - MOST)),
         ),
         (
             b"add(pow(8,41),74436767763955288882613195375699296255)",
-            (MOST, MOST),
+            Ok((MOST, MOST)),
         ),
     ];
     for (text, wanted) in cases {
-        assert_eq!(rt; bounded(rt.alloc(), text)?, Ok(wanted));
+        assert_eq!(rt; bounded(rt.alloc(), text)?, wanted);
     }
     Ok(())
 }
 
 #[test]
-fn values_of_numbers(rt: HostRuntime) -> Result<(), Fail> {
-    let cases: [(&[u8], i128); 22] = [
+fn values(rt: HostRuntime) -> Result<(), Fail> {
+    let cases: [(&[u8], i128); 64] = [
         (b"-7", -7),
         (b"x", -2),
         (b"neg(x)", 2),
@@ -490,16 +399,6 @@ fn values_of_numbers(rt: HostRuntime) -> Result<(), Fail> {
         (b"max(x,y,z)", 5),
         (b"if(lt(x,y),y,z)", 5),
         (b"if(gt(x,y),y,z)", 3),
-    ];
-    for (text, wanted) in cases {
-        assert_eq!(rt; valued(rt.alloc(), text)?, Some(wanted));
-    }
-    Ok(())
-}
-
-#[test]
-fn values_of_comparisons(rt: HostRuntime) -> Result<(), Fail> {
-    let cases: [(&[u8], i128); 20] = [
         (b"lt(x,y)", 1),
         (b"lt(y,y)", 0),
         (b"le(y,y)", 1),
@@ -520,16 +419,6 @@ fn values_of_comparisons(rt: HostRuntime) -> Result<(), Fail> {
         (b"notin(y,set(1,x))", 1),
         (b"notin(y,set(y,4))", 0),
         (b"notin(x,set())", 1),
-    ];
-    for (text, wanted) in cases {
-        assert_eq!(rt; valued(rt.alloc(), text)?, Some(wanted));
-    }
-    Ok(())
-}
-
-#[test]
-fn values_of_connectives(rt: HostRuntime) -> Result<(), Fail> {
-    let cases: [(&[u8], i128); 22] = [
         (b"not(lt(x,y))", 0),
         (b"not(0)", 1),
         (b"and(1,1)", 1),
@@ -559,71 +448,6 @@ fn values_of_connectives(rt: HostRuntime) -> Result<(), Fail> {
     Ok(())
 }
 
-// The root of each is to be a truth value, and 2^126 - 1 stands in some.
-#[test]
-fn judgements(rt: HostRuntime) -> Result<(), Fail> {
-    let cases: [(&[u8], Result<(), Kind>); 13] = [
-        (b"le(add(x,y),3)", Ok(())),
-        (b"in(x,set(1,2))", Ok(())),
-        (b"1", Ok(())),
-        (b"mod(y,2)", Ok(())),
-        (b"x", Err(Kind::Logic)),
-        (b"add(x,y)", Err(Kind::Logic)),
-        (b"eq(not(y),1)", Err(Kind::Logic)),
-        (b"eq(div(x,z),1)", Err(Kind::Division)),
-        (b"sub(div(x,z),9)", Err(Kind::Division)),
-        (
-            b"le(add(85070591730234615865843651857942052863,1,-1),x)",
-            Err(Kind::Range),
-        ),
-        (
-            b"add(85070591730234615865843651857942052863,85070591730234615865843651857942052863)",
-            Err(Kind::Range),
-        ),
-        (b"85070591730234615865843651857942052863", Err(Kind::Logic)),
-        (
-            b"ne(x,85070591730234615865843651857942052863)",
-            Err(Kind::Range),
-        ),
-    ];
-    for (text, wanted) in cases {
-        assert_eq!(rt; judged_expression(rt.alloc(), text)?, wanted);
-    }
-    Ok(())
-}
-
-// Each is the sum of the magnitudes of the nodes, operands before their node, and of the square of their number. The
-// last but one is 3 + (2^126 - 14) + 1 + 9, and the last one more.
-#[test]
-fn magnitudes_of_expressions(rt: HostRuntime) -> Result<(), Fail> {
-    let cases: [(&[u8], Option<i128>, Result<(), Kind>); 7] = [
-        (b"1", Some(1 + 1), Ok(())),
-        (b"not(lt(x,y))", Some(3 + 5 + 1 + 1 + 16), Ok(())),
-        (b"le(add(x,y),3)", Some(3 + 5 + 8 + 3 + 1 + 25), Ok(())),
-        (b"in(x,set(1,-4))", Some(3 + 1 + 4 + 0 + 1 + 25), Ok(())),
-        (
-            b"eq(mul(x,neg(y)),pow(z,2))",
-            Some(3 + 5 + 5 + 15 + 4 + 2 + 16 + 1 + 64),
-            Ok(()),
-        ),
-        (
-            b"le(x,-85070591730234615865843651857942052850)",
-            Some(MOST),
-            Ok(()),
-        ),
-        (
-            b"le(x,-85070591730234615865843651857942052851)",
-            None,
-            Err(Kind::Range),
-        ),
-    ];
-    for (text, wanted, judgement) in cases {
-        assert_eq!(rt; weighed(rt.alloc(), text)?, wanted);
-        assert_eq!(rt; judged_expression(rt.alloc(), text)?, judgement);
-    }
-    Ok(())
-}
-
 fn text(alloc: Global, bytes: &[u8]) -> Result<Text, NoMemory>
     ensures { IfOk result (λ text. text ≡ bytes.now) }
 {
@@ -635,7 +459,7 @@ fn text(alloc: Global, bytes: &[u8]) -> Result<Text, NoMemory>
 fn bit(alloc: Global) -> Result<Domain, NoMemory>
     ensures { IfOk result (λ domain. domain ≡ truths ∷ []) }
 {
-    Domain::of(Span::new(0, 1).unwrap(), alloc)
+    Domain::of(alloc, Span::new(0, 1).unwrap())
 }
 
 fn one(alloc: Global) -> Result<Decl, NoMemory>

@@ -6,3 +6,11 @@ pub mod NamingLemmas
 pub mod IntegerLemmas
 pub mod CompareLemmas
 pub mod FirstLemmas
+pub mod Decimals
+pub mod IndexPlaces
+pub mod DirectLemmas
+pub mod ReachedLemmas
+pub mod ScanLemmas
+pub mod WordLemmas
+pub mod FoundLemmas
+pub mod DistinctNames

@@ -3,6 +3,7 @@ use Rattle.std.specs.Prelude.{ℕ, ◌-◌, ◌^◌, Bool, ◌&&◌, nat_le, nat
 use Rattle.std.specs.Char.{is_ascii_digit}
 use Rattle.std.specs.List.{list_all}
 use Rattle.std.specs.Str.Parse.{without_leading_sign, signed_digits_value}
+use Rattle.xf_num.specs.Limits as limits
 
 -- digits, with an optional `-` or `+` before them
 abbrev pub is_integer : List ℕ → Bool
@@ -14,7 +15,7 @@ integer_of word = if is_integer word then Some (signed_digits_value 10 word) els
 
 -- the greatest magnitude of an integer
 abbrev pub magnitudes : ℕ
-magnitudes = 2 ^ 126 - 1
+magnitudes = limits.greatest_magnitude
 
 abbrev pub is_small : ℤ → Bool
 is_small z = nat_le (nat_abs z) magnitudes

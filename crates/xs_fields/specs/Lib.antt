@@ -7,3 +7,5 @@ pub mod Sizes
 pub mod Variables
 pub mod Cells
 pub mod Terms
+pub mod Scanning
+pub mod Law

@@ -54,9 +54,7 @@ pub fn judge_identifier(text: &[u8]) -> Option<Condition>
 pub fn copied(alloc: Global, bytes: &[u8]) -> Result<Text, NoMemory>
     ensures { IfOk result (λ text. text ≡ bytes.now) }
 {
-    let mut text = Row::new(alloc);
-    text.extend(bytes)?;
-    Ok(text)
+    Row::from_slice(alloc, bytes)
 }
 
 /// The identifier that a text is. Any other text is F4.

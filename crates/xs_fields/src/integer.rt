@@ -8,10 +8,8 @@ ghost use Rattle.xs_fields.specs.Integers.{integer_of, is_integer, is_small, num
 
 use crate::condition::Condition;
 use crate::words::from;
+use xf_num::MAX_MAGNITUDE;
 use xf_text::read_int;
-
-/// The greatest magnitude of an integer.
-const MAGNITUDE: u128 = (1 << 126) - 1;
 
 /// The bytes behind a sign.
 pub fn unsigned(word: &[u8]) -> &[u8]
@@ -40,7 +38,7 @@ pub fn is_integer(word: &[u8]) -> bool
 fn is_small(value: i128) -> bool
     ensures { result ≡ is_small value }
 {
-    value.unsigned_abs() <= MAGNITUDE
+    value.unsigned_abs() <= MAX_MAGNITUDE
 }
 
 /// Where the number of an integer begins.

@@ -4,7 +4,7 @@ ghost use Rattle.std.specs.Prelude.{◌≡◌, ◌∷◌, [], pos, codes, true, 
 ghost use Rattle.xs_model.specs.Outline.{outline_of};
 ghost use Rattle.xs_model.specs.declared.decl.Decl.{Decl};
 
-use crate::{count_terms, count_vars, judge_terms, judge_vars, read_terms, read_vars};
+use crate::{read_terms, read_vars};
 use std::alloc::Global;
 use std::test::Fail;
 use xf_num::{Domain, NoMemory, Row, Span, Text};
@@ -23,7 +23,7 @@ fn bits(alloc: Global) -> Result<Domain, NoMemory>
     ensures { IfOk result (λ domain. domain ≡ record { lo = pos 0; hi = pos 1 } ∷ []) }
 {
     match Span::new(0, 1) {
-        Some(span) => Domain::of(span, alloc),
+        Some(span) => Domain::of(alloc, span),
         None => Err(NoMemory),
     }
 }
@@ -88,11 +88,6 @@ fn lists_of_variables(rt: HostRuntime) -> Result<(), Fail> {
         (b"", &[]),
     ];
     for (text, want) in rows {
-        assert_eq!(rt; judge_vars(rt.alloc(), text, &names)?, None);
-        assert_eq!(rt;
-            count_vars(rt.alloc(), text, &names, 3)?,
-            Some(want.len() as u64)
-        );
         match read_vars(rt.alloc(), text, &names, 3) {
             Ok(vars) => assert_eq!(rt; vars.as_slice(), want),
             Err(_) => assert!(rt; false),
@@ -117,11 +112,6 @@ fn lists_of_terms(rt: HostRuntime) -> Result<(), Fail> {
         (b" ", &[]),
     ];
     for (text, want) in rows {
-        assert_eq!(rt; judge_terms(rt.alloc(), text, &names)?, None);
-        assert_eq!(rt;
-            count_terms(rt.alloc(), text, &names, 4)?,
-            Some(want.len() as u64)
-        );
         match read_terms(rt.alloc(), text, &names, 4) {
             Ok(terms) => assert_eq!(rt; terms.as_slice(), want),
             Err(_) => assert!(rt; false),

@@ -1,13 +1,15 @@
 ghost use Rattle.std.specs.Prelude.{◌≡◌, ◌∷◌, ◌++◌, true, Some, IfOk};
+ghost use Rattle.std.specs.Result.{result_err};
 ghost use Rattle.std.specs.Option.{option_map};
-ghost use Rattle.xs_fields.specs.Conditions.{answer, first_missed, judged, IsOrMemory};
+ghost use Rattle.xs_fields.specs.Conditions.{answer, earlier_of, first_missed, judged, IsOrMemory};
 ghost use Rattle.xs_fields.specs.Integers.{integer_of, is_small};
-ghost use Rattle.xs_fields.specs.Lists.{has_small_ends, piece_in, piece_meets, piece_of, pieces_in, pieces_meet, pieces_of, point, range_of};
+ghost use Rattle.xs_fields.specs.Lists.{has_small_ends, piece_in, piece_list, piece_of, pieces_meet, pieces_of, point, range_of};
 ghost use Rattle.xs_fields.specs.Words.{is_byte, parts};
 
 use crate::compare::at_most;
 use crate::condition::{Condition, earlier};
 use crate::integer::{is_integer, read_integer, small_value};
+use crate::reading::Reading;
 use crate::words::{cut, next_word};
 use std::alloc::Global;
 use xf_num::{NoMemory, Row, Span, Spans};
@@ -85,10 +87,54 @@ fn read_piece(word: &[u8]) -> Result<Span, Condition>
     }
 }
 
-fn judge_piece(word: &[u8]) -> Option<Condition>
-    ensures { result ≡ first_missed (piece_meets word.now) }
+/// Appends what a word spells. What is missed with it.
+fn take_piece(
+    pieces: &mut Spans,
+    missed: Option<Condition>,
+    piece: Result<Span, Condition>,
+) -> Result<Option<Condition>, NoMemory>
+    ensures missed { IfOk result (λ m. m ≡ earlier_of missed (result_err piece)) }
+    ensures value { IfOk result (λ _. pieces.new ≡ pieces.old ++ piece_list piece) }
 {
-    read_piece(word).err()
+    match piece {
+        Ok(piece) => {
+            pieces.push(piece)?;
+            Ok(earlier(missed, None))
+        }
+        Err(condition) => Ok(earlier(missed, Some(condition))),
+    }
+}
+
+/// The ranges that a domain text denotes, as written, and the first condition that the text misses: `Spelling` or
+/// `Magnitude`. A word that misses one has no range.
+pub fn scan_pieces(alloc: Global, text: &[u8]) -> Result<Reading<Spans>, NoMemory>
+    ensures missed { IfOk result (λ r. r.missed ≡ first_missed (pieces_meet text.now)) }
+    ensures value { IfOk result (λ r. r.value ≡ pieces_of text.now) }
+{
+    let mut pieces = Row::new(alloc);
+    let mut missed = None;
+    let mut rest = text;
+    while let Some((word, more)) = next_word(rest) {
+        missed = take_piece(&mut pieces, missed, read_piece(word))?;
+        rest = more;
+    }
+    Ok(Reading {
+        value: pieces,
+        missed,
+    })
+}
+
+/// The ranges that a domain text denotes, as written: integers, and ranges `a..b` with `a` at most `b`.
+///
+/// A misspelt word is F4, a magnitude above 2^126 - 1 is F10: the first of these over the whole text.
+pub fn read_pieces(alloc: Global, text: &[u8]) -> Result<Spans, FieldStop>
+    ensures { IsOrMemory result (answer (pieces_meet text.now) (pieces_of text.now)) }
+{
+    let reading = scan_pieces(alloc, text)?;
+    match reading.missed {
+        Some(missed) => Err(FieldStop::Refused(missed.kind())),
+        None => Ok(reading.value),
+    }
 }
 
 /// The first of `Spelling` and `Magnitude` that a domain text misses, over the whole text.
@@ -98,43 +144,8 @@ pub fn judge_pieces(text: &[u8]) -> Option<Condition>
     let mut missed = None;
     let mut rest = text;
     while let Some((word, more)) = next_word(rest) {
-        missed = earlier(missed, judge_piece(word));
+        missed = earlier(missed, read_piece(word).err());
         rest = more;
     }
     missed
-}
-
-/// Appends what a word spells, or changes nothing.
-fn push_piece(pieces: &mut Spans, word: &[u8]) -> Result<(), NoMemory>
-    ensures { IfOk result (λ _. pieces.new ≡ pieces.old ++ pieces_in word.now) }
-{
-    match read_piece(word) {
-        Ok(piece) => pieces.push(piece),
-        Err(_) => Ok(()),
-    }
-}
-
-/// The ranges that a domain text denotes, in the order of its words.
-fn expand_pieces(alloc: Global, text: &[u8]) -> Result<Spans, NoMemory>
-    ensures { IfOk result (λ pieces. pieces ≡ pieces_of text.now) }
-{
-    let mut pieces = Row::new(alloc);
-    let mut rest = text;
-    while let Some((word, more)) = next_word(rest) {
-        push_piece(&mut pieces, word)?;
-        rest = more;
-    }
-    Ok(pieces)
-}
-
-/// The ranges that a domain text denotes, as written: integers, and ranges `a..b` with `a` at most `b`.
-///
-/// A misspelt word is F4, a magnitude above 2^126 - 1 is F10: the first of these over the whole text.
-pub fn read_pieces(alloc: Global, text: &[u8]) -> Result<Spans, FieldStop>
-    ensures { IsOrMemory result (answer (pieces_meet text.now) (pieces_of text.now)) }
-{
-    match judge_pieces(text) {
-        Some(missed) => Err(FieldStop::Refused(missed.kind())),
-        None => Ok(expand_pieces(alloc, text)?),
-    }
 }

@@ -1,15 +1,20 @@
-ghost use Rattle.std.specs.Prelude.{◌≡◌, ◌≤◌, ◌+◌, ◌++◌, length, nat_abs, replicate, IfOk, SomeIff};
+ghost use Rattle.std.specs.Prelude.{◌≡◌, ◌++◌, length, nat_abs, replicate, IfOk};
+ghost use Rattle.std.specs.Result.{result_err};
 ghost use Rattle.xs_fields.specs.Conditions.{answer, first_missed, judged, IsOrMemory};
 ghost use Rattle.xs_fields.specs.Integers.{integer_of};
-ghost use Rattle.xs_fields.specs.Lists.{copies, count_meets, once, int_words_meet, ints_meet, ints_of, is_small_run, members_of, run_meets, run_of};
+ghost use Rattle.xs_fields.specs.Lists.{copies, once, ints_meet, ints_of, is_small_run, members_in, run_of};
+ghost use Rattle.xs_fields.specs.Scanning.{have_room, joined};
 
 use crate::compare::at_most;
-use crate::condition::{Condition, earlier};
+use crate::condition::Condition;
 use crate::integer::{is_integer, read_integer, small_value};
+use crate::reading::Reading;
+use crate::scan::{has_room, joined};
 use crate::words::{cut, next_word};
 use std::alloc::Global;
 use xf_num::{Ints, NoMemory, Row};
 use xf_text::FieldStop;
+use xs_model::Names;
 
 /// An integer of a list, and how many copies of it stand there.
 #[derive(Clone, Copy, Debug)]
@@ -58,68 +63,6 @@ pub(crate) fn read_run(word: &[u8]) -> Result<Run, Condition>
     }
 }
 
-pub(crate) fn judge_run(word: &[u8]) -> Option<Condition>
-    ensures { result ≡ first_missed (run_meets word.now) }
-{
-    read_run(word).err()
-}
-
-/// The first of `Spelling` and `Magnitude` that a list of integers misses, over the whole text.
-pub fn judge_ints(text: &[u8]) -> Option<Condition>
-    ensures { result ≡ first_missed (int_words_meet text.now) }
-{
-    let mut missed = None;
-    let mut rest = text;
-    while let Some((word, more)) = next_word(rest) {
-        missed = earlier(missed, judge_run(word));
-        rest = more;
-    }
-    missed
-}
-
-/// The count with the members of one word more, where it is at most `left`.
-pub(crate) fn with_members(count: u64, word: &[u8], left: u64) -> Option<u64>
-    requires { count ≤ left }
-    ensures { SomeIff result (count + length (members_of word.now) ≤ left) (count + length (members_of word.now)) }
-{
-    match read_run(word) {
-        Ok(run) => {
-            if run.times.unsigned_abs() <= u128::from(left - count) {
-                Some(count + run.times.unsigned_abs() as u64)
-            } else {
-                None
-            }
-        }
-        Err(_) => Some(count),
-    }
-}
-
-/// The number of members that a list of integers denotes, where it is at most `left`. It is found without the
-/// members. A word that is not spelt right has none.
-pub fn count_ints(text: &[u8], left: u64) -> Option<u64>
-    ensures { SomeIff result (length (ints_of text.now) ≤ left) (length (ints_of text.now)) }
-{
-    let mut count = 0;
-    let mut rest = text;
-    while let Some((word, more)) = next_word(rest) {
-        match with_members(count, word, left) {
-            Some(next) => count = next,
-            None => return None,
-        }
-        rest = more;
-    }
-    Some(count)
-}
-
-fn judge_count(text: &[u8], left: u64) -> Option<Condition>
-    ensures { result ≡ first_missed (count_meets (length (ints_of text.now)) left) }
-{
-    match count_ints(text, left) {
-        Some(_) => None,
-        None => Some(Condition::Counting),
-    }
-}
-
 /// Appends the copies, or some of them.
 fn push_copies(ints: &mut Ints, run: Run) -> Result<(), NoMemory>
     ensures { IfOk result (λ _. ints.new ≡ ints.old ++ replicate (nat_abs run.times) run.value) }
@@ -130,38 +73,64 @@ fn push_copies(ints: &mut Ints, run: Run) -> Result<(), NoMemory>
     Ok(())
 }
 
-/// Appends the members of a word, or some of them.
-fn push_members(ints: &mut Ints, word: &[u8]) -> Result<(), NoMemory>
-    ensures { IfOk result (λ _. ints.new ≡ ints.old ++ members_of word.now) }
+/// Appends the members of a word, where nothing is missed and they have room. What is missed with it.
+fn take_run(
+    ints: &mut Ints,
+    missed: Option<Condition>,
+    run: Result<Run, Condition>,
+    left: u64,
+) -> Result<Option<Condition>, NoMemory>
+    ensures missed { IfOk result (λ m. m ≡ joined missed (result_err run) (have_room left ints.old (length (members_in run)))) }
+    ensures value { IfOk result (λ m. m ≡ None → ints.new ≡ ints.old ++ members_in run) }
 {
-    match read_run(word) {
-        Ok(run) => push_copies(ints, run),
-        Err(_) => Ok(()),
+    match run {
+        Ok(run) => {
+            let room = has_room(left, ints.len(), run.times.unsigned_abs());
+            let next = joined(missed, None, room);
+            if next.is_none() {
+                push_copies(ints, run)?;
+            }
+            Ok(next)
+        }
+        Err(condition) => {
+            let room = has_room(left, ints.len(), 0);
+            Ok(joined(missed, Some(condition), room))
+        }
     }
 }
 
-/// The list of integers that a text denotes.
-fn expand_ints(alloc: Global, text: &[u8]) -> Result<Ints, NoMemory>
-    ensures { IfOk result (λ ints. ints ≡ ints_of text.now) }
+/// The list of integers that a text denotes, and the first condition that the text misses where at most `left` members
+/// are allowed: `Spelling`, `Magnitude` or `Counting`. Past the limit no member is made, and the words are judged to the
+/// end.
+pub fn scan_ints(alloc: Global, text: &[u8], left: u64) -> Result<Reading<Ints>, NoMemory>
+    ensures missed { IfOk result (λ r. r.missed ≡ first_missed (ints_meet text.now left)) }
+    ensures value { IfOk result (λ r. r.missed ≡ None → r.value ≡ ints_of text.now) }
 {
     let mut ints = Row::new(alloc);
+    let mut missed = None;
     let mut rest = text;
     while let Some((word, more)) = next_word(rest) {
-        push_members(&mut ints, word)?;
+        missed = take_run(&mut ints, missed, read_run(word), left)?;
         rest = more;
     }
-    Ok(ints)
+    Ok(Reading {
+        value: ints,
+        missed,
+    })
 }
 
 /// The list of integers that a text denotes: integers, and words `vxk` for `k` copies of `v`.
 ///
 /// A misspelt word is F4, a magnitude above 2^126 - 1 is F10, and more than `left` members are F6: the first of these
-/// over the whole text. The members are counted before any is made.
-pub fn read_ints(alloc: Global, text: &[u8], left: u64) -> Result<Ints, FieldStop>
+/// over the whole text. No member past `left` is made. Names stand in no such list; it takes them as the readers of
+/// other lists do.
+pub fn read_ints(alloc: Global, text: &[u8], names: &Names, left: u64) -> Result<Ints, FieldStop>
     ensures { IsOrMemory result (answer (ints_meet text.now left) (ints_of text.now)) }
 {
-    match earlier(judge_ints(text), judge_count(text, left)) {
+    let _names = names;
+    let reading = scan_ints(alloc, text, left)?;
+    match reading.missed {
         Some(missed) => Err(FieldStop::Refused(missed.kind())),
-        None => Ok(expand_ints(alloc, text)?),
+        None => Ok(reading.value),
     }
 }

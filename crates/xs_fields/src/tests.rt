@@ -1,7 +1,7 @@
 use crate::{
-    Condition, count_ints, earlier, is_blank, is_identifier, judge_identifier, judge_integer,
-    judge_ints, judge_pieces, judge_sizes, next_word, read_identifier, read_integer, read_ints,
-    read_pieces, read_sizes, read_vars, read_word,
+    Condition, earlier, is_blank, is_identifier, judge_identifier, judge_integer, judge_pieces,
+    judge_sizes, next_word, read_identifier, read_integer, read_ints, read_pieces, read_sizes,
+    read_vars, read_word,
 };
 use xf_text::{FieldStop, Kind};
 use xs_model::Names;
@@ -11,6 +11,7 @@ const GREAT: &[u8] = b"85070591730234615865843651857942052864";
 
 #[test]
 fn lists_of_integers(rt: HostRuntime) {
+    let names = Names::new(rt.alloc());
     let accepted: [(&[u8], &[i128]); 7] = [
         (b"", &[]),
         (b" \t\r\n", &[]),
@@ -24,17 +25,16 @@ fn lists_of_integers(rt: HostRuntime) {
         ),
     ];
     for (text, want) in accepted {
-        match read_ints(rt.alloc(), text, 4) {
+        match read_ints(rt.alloc(), text, &names, 4) {
             Ok(ints) => assert_eq!(rt; ints.as_slice(), want),
             Err(_) => assert!(rt; false),
         }
-        assert_eq!(rt; judge_ints(text), None);
-        assert_eq!(rt; count_ints(text, 4), Some(want.len() as u64));
     }
 }
 
 #[test]
 fn refused_lists_of_integers(rt: HostRuntime) {
+    let names = Names::new(rt.alloc());
     let refused: [(&[u8], Kind); 18] = [
         (b"1x0", Kind::Shape),
         (b"1x-1", Kind::Shape),
@@ -59,12 +59,11 @@ fn refused_lists_of_integers(rt: HostRuntime) {
         (b"1 2 3 4 5", Kind::Many),
     ];
     for (text, want) in refused {
-        match read_ints(rt.alloc(), text, 4) {
+        match read_ints(rt.alloc(), text, &names, 4) {
             Ok(_) => assert!(rt; false),
             Err(stop) => assert_eq!(rt; stop, FieldStop::Refused(want)),
         }
     }
-    assert_eq!(rt; count_ints(b"1x5", 4), None);
 }
 
 #[test]

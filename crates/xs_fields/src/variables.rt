@@ -1,11 +1,15 @@
-ghost use Rattle.std.specs.Prelude.{◌≡◌, ◌+◌, ◌<◌, ◌≤◌, ◌++◌, length, Some, IfOk, SomeIff};
-ghost use Rattle.xs_fields.specs.Cells.{reached, reached_at, variable_meets, variable_words_meet, variables_at, variables_in, vars_meet, vars_of};
+ghost use Rattle.std.specs.Prelude.{◌≡◌, ◌<◌, ◌++◌, length, Some, IfOk};
+ghost use Rattle.std.specs.Result.{result_err};
+ghost use Rattle.xs_fields.specs.Cells.{reached, reached_at, variable_meets, variables_at, variables_in, variables_of, vars_meet, vars_of};
 ghost use Rattle.xs_fields.specs.Conditions.{answer, first_missed, IsOrMemory};
-ghost use Rattle.xs_fields.specs.Lists.{count_meets};
+ghost use Rattle.xs_fields.specs.Scanning.{have_room, joined};
 ghost use Rattle.xs_fields.specs.Variables.{word_of};
 
 use crate::cells::{are_inside, covered};
 use crate::condition::{Condition, earlier};
+use crate::direct::direct_variable;
+use crate::reading::Reading;
+use crate::scan::{has_room, joined};
 use crate::variable::{Word, expand_word, judge_word};
 use crate::words::next_word;
 use std::alloc::Global;
@@ -62,7 +66,7 @@ pub fn reach(alloc: Global, names: &Names, word: &Word) -> Result<Result<Vars, C
 }
 
 /// The variables that the bytes of a word denote, where it is spelt right.
-pub(crate) fn reach_bytes(
+fn reach_bytes(
     alloc: Global,
     names: &Names,
     word: &[u8],
@@ -73,120 +77,99 @@ pub(crate) fn reach_bytes(
     reach(alloc, names, &word)
 }
 
-pub(crate) fn judge_variable(
+/// The variables of a word, none where it misses `Naming`, and whether it does.
+fn parted(alloc: Global, reached: Result<Vars, Condition>) -> (Vars, Option<Condition>)
+    ensures value { result.0 ≡ variables_in reached }
+    ensures missed { result.1 ≡ result_err reached }
+{
+    match reached {
+        Ok(vars) => (vars, None),
+        Err(condition) => (Row::new(alloc), Some(condition)),
+    }
+}
+
+/// The variables that a word denotes, and the first condition that it misses.
+pub(crate) fn scan_word(
     alloc: Global,
     names: &Names,
     word: &[u8],
-) -> Result<Option<Condition>, NoMemory>
-    ensures { IfOk result (λ missed. missed ≡ first_missed (variable_meets names.now word.now)) }
+) -> Result<Reading<Vars>, NoMemory>
+    ensures missed { IfOk result (λ r. r.missed ≡ first_missed (variable_meets names.now word.now)) }
+    ensures value { IfOk result (λ r. r.value ≡ variables_of names.now word.now) }
 {
     let reached = reach_bytes(alloc, names, word)?;
-    Ok(earlier(judge_word(word), reached.err()))
+    let (value, named) = parted(alloc, reached);
+    let missed = earlier(judge_word(word), named);
+    Ok(Reading { value, missed })
 }
 
-/// The first of `Spelling`, `Magnitude` and `Naming` that a list of variables misses, over the whole text.
-pub fn judge_vars(alloc: Global, text: &[u8], names: &Names) -> Result<Option<Condition>, NoMemory>
-    ensures { IfOk result (λ missed. missed ≡ first_missed (variable_words_meet names.now text.now)) }
+/// Appends the variables, where nothing is missed and they have room. What is missed with them.
+fn take(
+    vars: &mut Vars,
+    missed: Option<Condition>,
+    judged: Option<Condition>,
+    more: &[u32],
+    left: u64,
+) -> Result<Option<Condition>, NoMemory>
+    ensures missed { IfOk result (λ m. m ≡ joined missed judged (have_room left vars.old (length more.now))) }
+    ensures value { IfOk result (λ m. m ≡ None → vars.new ≡ vars.old ++ more.now) }
 {
+    let room = has_room(left, vars.len(), more.len() as u128);
+    let next = joined(missed, judged, room);
+    if next.is_none() {
+        vars.extend(more)?;
+    }
+    Ok(next)
+}
+
+/// Appends the variables of a word, where nothing is missed and they have room. What is missed with it.
+fn take_word(
+    alloc: Global,
+    vars: &mut Vars,
+    missed: Option<Condition>,
+    names: &Names,
+    word: &[u8],
+    left: u64,
+) -> Result<Option<Condition>, NoMemory>
+    ensures missed { IfOk result (λ m. m ≡ joined missed (first_missed (variable_meets names.now word.now)) (have_room left vars.old (length (variables_of names.now word.now)))) }
+    ensures value { IfOk result (λ m. m ≡ None → vars.new ≡ vars.old ++ variables_of names.now word.now) }
+{
+    match direct_variable(names, word) {
+        Some(variable) => {
+            let next = take(vars, missed, None, &[variable], left)?;
+            Ok(next)
+        }
+        None => {
+            let reading = scan_word(alloc, names, word)?;
+            let next = take(vars, missed, reading.missed, reading.value.as_slice(), left)?;
+            Ok(next)
+        }
+    }
+}
+
+/// The list of variables that a text denotes, and the first condition that the text misses where at most `left`
+/// variables are allowed: `Spelling`, `Magnitude`, `Naming` or `Counting`. Past the limit none is appended, and the words
+/// are judged to the end.
+pub fn scan_vars(
+    alloc: Global,
+    text: &[u8],
+    names: &Names,
+    left: u64,
+) -> Result<Reading<Vars>, NoMemory>
+    ensures missed { IfOk result (λ r. r.missed ≡ first_missed (vars_meet names.now text.now left)) }
+    ensures value { IfOk result (λ r. r.missed ≡ None → r.value ≡ vars_of names.now text.now) }
+{
+    let mut vars = Row::new(alloc);
     let mut missed = None;
     let mut rest = text;
     while let Some((word, more)) = next_word(rest) {
-        let judged = judge_variable(alloc, names, word)?;
-        missed = earlier(missed, judged);
+        missed = take_word(alloc, &mut vars, missed, names, word, left)?;
         rest = more;
     }
-    Ok(missed)
-}
-
-/// Appends the variables that a word denotes, or changes nothing.
-fn push_variables(
-    alloc: Global,
-    vars: &mut Vars,
-    names: &Names,
-    word: &[u8],
-) -> Result<(), NoMemory>
-    ensures { IfOk result (λ _. vars.new ≡ vars.old ++ variables_in (reached names.now (word_of word.now))) }
-{
-    let reached = reach_bytes(alloc, names, word)?;
-    match reached {
-        Ok(more) => vars.extend(more.as_slice()),
-        Err(_) => Ok(()),
-    }
-}
-
-/// The count with the variables of one word more, where it is at most `left`.
-pub(crate) fn with_variables(
-    alloc: Global,
-    count: u64,
-    names: &Names,
-    word: &[u8],
-    left: u64,
-) -> Result<Option<u64>, NoMemory>
-    requires { count ≤ left }
-    ensures { IfOk result (λ r. SomeIff r (count + length (variables_in (reached names.now (word_of word.now))) ≤ left) (count + length (variables_in (reached names.now (word_of word.now))))) }
-{
-    let reached = reach_bytes(alloc, names, word)?;
-    match reached {
-        Ok(more) => {
-            let len = more.len() as u64;
-            if len <= left - count {
-                Ok(Some(count + len))
-            } else {
-                Ok(None)
-            }
-        }
-        Err(_) => Ok(Some(count)),
-    }
-}
-
-/// The number of variables that a text denotes, where it is at most `left`. A word that is not right has none.
-pub fn count_vars(
-    alloc: Global,
-    text: &[u8],
-    names: &Names,
-    left: u64,
-) -> Result<Option<u64>, NoMemory>
-    ensures { IfOk result (λ r. SomeIff r (length (vars_of names.now text.now) ≤ left) (length (vars_of names.now text.now))) }
-{
-    let mut count = 0;
-    let mut rest = text;
-    while let Some((word, more)) = next_word(rest) {
-        let next = with_variables(alloc, count, names, word, left)?;
-        match next {
-            Some(next) => count = next,
-            None => return Ok(None),
-        }
-        rest = more;
-    }
-    Ok(Some(count))
-}
-
-/// The variables that a text denotes.
-fn expand_vars(alloc: Global, text: &[u8], names: &Names) -> Result<Vars, NoMemory>
-    ensures { IfOk result (λ vars. vars ≡ vars_of names.now text.now) }
-{
-    let mut vars = Row::new(alloc);
-    let mut rest = text;
-    while let Some((word, more)) = next_word(rest) {
-        push_variables(alloc, &mut vars, names, word)?;
-        rest = more;
-    }
-    Ok(vars)
-}
-
-fn judge_count(
-    alloc: Global,
-    text: &[u8],
-    names: &Names,
-    left: u64,
-) -> Result<Option<Condition>, NoMemory>
-    ensures { IfOk result (λ missed. missed ≡ first_missed (count_meets (length (vars_of names.now text.now)) left)) }
-{
-    let counted = count_vars(alloc, text, names, left)?;
-    match counted {
-        Some(_) => Ok(None),
-        None => Ok(Some(Condition::Counting)),
-    }
+    Ok(Reading {
+        value: vars,
+        missed,
+    })
 }
 
 /// The list of variables that a text denotes: direct words, and compact words for the defined cells that they cover, in
@@ -198,10 +181,9 @@ fn judge_count(
 pub fn read_vars(alloc: Global, text: &[u8], names: &Names, left: u64) -> Result<Vars, FieldStop>
     ensures { IsOrMemory result (answer (vars_meet names.now text.now left) (vars_of names.now text.now)) }
 {
-    let words = judge_vars(alloc, text, names)?;
-    let count = judge_count(alloc, text, names, left)?;
-    match earlier(words, count) {
+    let reading = scan_vars(alloc, text, names, left)?;
+    match reading.missed {
         Some(missed) => Err(FieldStop::Refused(missed.kind())),
-        None => Ok(expand_vars(alloc, text, names)?),
+        None => Ok(reading.value),
     }
 }

@@ -1,104 +1,89 @@
--- What a constraint misses before the number of constraints is looked at, and what it says of one that it is in order.
-use Rattle.std.proofs.Common.{◌≡◌, ◌≤◌, ℕ, Bool, true, false, nat_lt, List, [], ◌∷◌, length, Option, None, Some, Err, Ok, Result, refl, sym, subst, ap, ◌∙◌, codes, bytes_eq, if◌then◌else◌}
+-- What comes of a constraint that is read, and what it says of one that it is in order.
+use Rattle.std.proofs.Common.{◌≡◌, ℕ, Bool, true, false, List, [], ◌∷◌, length, nat_le, if◌then◌else◌, Option, None, Some, Err, Ok, Result, refl, sym, subst, ap, ◌∙◌}
 use Rattle.std.specs.Prelude.{OnOk}
-use Rattle.std.specs.Result.{result_err}
-use Rattle.xf_markup.specs.declared.tree.Node.{Node}
-use Rattle.xf_num.specs.Span.{Bounds}
-use Rattle.xf_text.specs.declared.fault.FieldStop.{FieldStop}
-use Rattle.xf_text.specs.declared.fault.Kind.{Kind}
 use Rattle.xf_text.specs.declared.fault.FieldStop.TheVariants.{Refused}
-use Rattle.xf_text.specs.declared.fault.Kind.TheVariants.{Many}
-use Rattle.xs_fields.specs.Conditions.{IsOrMemory, answer, answer_on, earlier_of, first_missed}
+use Rattle.xf_text.specs.declared.fault.Kind.{Kind}
+use Rattle.xs_fields.specs.Conditions.{IsOrMemory, answer, answer_on, first_missed, kind_of}
 use Rattle.xs_fields.specs.declared.condition.Condition.{Condition}
-use Rattle.xs_fields.specs.declared.condition.Condition.TheVariants.{Known, Nesting, Spelling, Magnitude, Naming, Counting, Fitting}
-use Rattle.xs_fields.proofs.FirstLemmas.{before_counting, still_refused, told_none, told_value}
-use Rattle.xs_fields.proofs.OrderLemmas.{first_missed-both}
-use Rattle.xs_file.proofs.OutcomeLemmas.{refused_fault}
-use Rattle.xs_file.specs.Sections.{Progress, constraint_behind, constraint_meets, constraint_unit, form_meets, left_of, with_constraint}
-use Rattle.xs_model.specs.Accepted.{IsFaultless, IsFormed, IsMeasured, IsMeasuredForm, IsSoundConstraint, most_constraints}
+use Rattle.xs_fields.proofs.FirstLemmas.{told_none, told_value}
+use Rattle.xs_file.specs.Sections.{Progress, added, constraint_behind, form_meets, taken, taken_on}
+use Rattle.xs_model.proofs.FormLemmas.{measured_form}
+use Rattle.xs_model.specs.Accepted.{is_built, IsFaultless, IsFormed, IsMeasured, IsSoundConstraint}
+use Rattle.std.specs.Result.{result_err}
+use Rattle.xf_num.specs.Span.{Bounds}
+use Rattle.xf_text.specs.declared.fault.Kind.TheVariants.{Logic, Range}
+use Rattle.xs_file.specs.Asked.{fault_of, fault_of_magnitude, first_fault, truth_fault}
+use Rattle.xs_model.specs.Bounds.{bounds, is_truth}
+use Rattle.xs_model.specs.Magnitude.{are_tasks, judged, judged_bounds, mag}
+use Rattle.xs_model.specs.Sound.{magnitudes}
+use Rattle.xs_model.specs.declared.concrete.Concrete.{Concrete}
 use Rattle.xs_model.specs.declared.decl.Decl.{Decl}
 use Rattle.xs_model.specs.declared.instance.Constraint.{Constraint}
-use Rattle.xs_model.specs.declared.instance.Constraint.TheVariants.{AllDifferent, Intension}
-use Rattle.xs_model.specs.Magnitude.{judged}
+use Rattle.xs_model.specs.declared.instance.Constraint.TheVariants.{Intension, Extension, Unary, Regular, Mdd, AllDifferent, DifferentLists, DifferentMatrix, AllEqual, Ordered, Lex, LexMatrix, Sum, Count, NValues, Cardinality, Minimum, Maximum, Element, ElementMatrix, Channel, ChannelTwo, ChannelValue, NoOverlap, Cumulative, Circuit, Instantiation}
 use Rattle.xs_model.specs.Outline.{outlines_of, variables_in}
 use Rattle.xs_model.specs.Spans.{spans_of}
 use Rattle.xs_model.proofs.SpanLemmas.{spans_variables}
-use Rattle.xs_relate.proofs.MissedLemmas.{different_fits, intension_fits}
-use Rattle.xs_relate.specs.Different.{different_meets}
-use Rattle.xs_relate.specs.Intension.{intension_meets}
-use Rattle.xs_var.specs.Units.{fault_or, kind_or, outcome}
-use Rattle.xs_var.specs.VarDomain.{counting_meets}
-use Rattle.xs_var.specs.Variable.{known_meets}
-
-counting_alone : (b : Bool) (j : Condition) → (j ≡ Counting → ⊥) → counting_meets b j ≡ true
-counting_alone b Known h = refl
-counting_alone b Nesting h = refl
-counting_alone b Spelling h = refl
-counting_alone b Magnitude h = refl
-counting_alone b Naming h = refl
-counting_alone b Counting h = absurd (h refl)
-counting_alone b Fitting h = refl
-
-chosen_fits : (a b : Bool) (x y : Bool) → x ≡ true → y ≡ true → (if a then x else if b then y else true) ≡ true
-chosen_fits true b x y h g = h
-chosen_fits false true x y h g = g
-chosen_fits false false x y h g = refl
-
--- no form that is known has lengths that may not fit
-form_fits : (s : Progress) (n : Node) → form_meets s n Fitting ≡ true
-form_fits s n = chosen_fits (bytes_eq n.name (codes "allDifferent")) (bytes_eq n.name (codes "intension")) _ _ (different_fits (outlines_of s.declared.decls) (left_of s) n) (intension_fits (outlines_of s.declared.decls) (left_of s) n)
-
--- what a form is refused for, its constraint is refused for
-pub refused_so : (s : Progress) (n : Node) (stop : FieldStop) → IsOrMemory (Err stop) (answer (form_meets s n) (constraint_behind s n)) → IsOrMemory (Err stop) (answer (constraint_meets s n) (constraint_behind s n))
-refused_so s n stop h =
-    let room = nat_lt (length s.constraints) most_constraints in
-    still_refused (form_meets s n) (constraint_meets s n) stop (constraint_behind s n) (constraint_behind s n) (λ k e. before_counting (form_meets s n) (counting_meets room) k (counting_alone room) (form_fits s n) e) h
-
-measured_form : (ss : List Bounds) (c : Constraint) → IsMeasured ss c → IsMeasuredForm ss c
-measured_form ss (AllDifferent list) h = h
-measured_form ss (Intension e) h = tt
 
 pub formed_spans : (ds : List Decl) (c : Constraint) → IsFormed (variables_in (outlines_of ds)) c → IsFormed (length (spans_of ds)) c
 formed_spans ds c h = subst (λ (n : ℕ). IsFormed n c) (sym (spans_variables ds)) h
 
 -- a constraint that misses nothing is sound
-pub judged_sound : {E : Type 0} (ds : List Decl) (c : Constraint) (r : Result (Unit {0}) E) → IsFormed (variables_in (outlines_of ds)) c → OnOk r (IsFaultless (spans_of ds) c) → OnOk r (IsMeasured (spans_of ds) c) → OnOk r (IsSoundConstraint (spans_of ds) c)
-judged_sound ds c (Err k) formed faultless measured = tt
-judged_sound ds c (Ok x) formed faultless measured = record { formed = formed_spans ds c formed; faultless = faultless; measured = measured_form (spans_of ds) c measured }
+pub judged_sound : {E : Type 0} (ds : List Decl) (c : Constraint) (r : Result (Unit {0}) E) → IsFormed (variables_in (outlines_of ds)) c → is_built c ≡ true → OnOk r (IsFaultless (spans_of ds) c) → OnOk r (IsMeasured (spans_of ds) c) → OnOk r (IsSoundConstraint (spans_of ds) c)
+judged_sound ds c (Err k) formed built faultless measured = tt
+judged_sound ds c (Ok x) formed built faultless measured = record { formed = formed_spans ds c formed; faultless = faultless; measured = measured_form (spans_of ds) c measured; built = built }
 
-room_decides : (s : Progress) (n : Node) (b : Bool) → nat_lt (length s.constraints) most_constraints ≡ b → first_missed (form_meets s n) ≡ None → first_missed (constraint_meets s n) ≡ (if b then None else Some Counting)
-room_decides s n b e h =
-    sym (first_missed-both (form_meets s n) (counting_meets (nat_lt (length s.constraints) most_constraints)))
-    ∙ ap (λ r. earlier_of r (first_missed (counting_meets (nat_lt (length s.constraints) most_constraints)))) h
-    ∙ ap (λ v. first_missed (counting_meets v)) e ∙ by b
-  where
-    by : (v : Bool) → first_missed (counting_meets v) ≡ (if v then None else Some Counting)
-    by true = refl
-    by false = refl
+-- a constraint that is read is appended, or is at fault by its judgement
+pub taken_read : (s : Progress) (c : Concrete) (x : Constraint) → IsOrMemory (Ok x) (answer (form_meets s c) (constraint_behind s c)) → taken true s c ≡ added true s x
+taken_read s c x h =
+    ap (λ m. taken_on true s m (constraint_behind s c)) (told_none x (constraint_behind s c) (first_missed (form_meets s c)) h)
+    ∙ ap (λ (y : Constraint). added true s y) (sym (told_value x (constraint_behind s c) (first_missed (form_meets s c)) h))
 
--- a form that is read is a constraint where there is room for one
-pub read_so : (s : Progress) (n : Node) (c : Constraint) → IsOrMemory (Ok c) (answer (form_meets s n) (constraint_behind s n)) → nat_lt (length s.constraints) most_constraints ≡ true → Ok c ≡ answer (constraint_meets s n) (constraint_behind s n)
-read_so s n c h room =
-    let none = told_none c (constraint_behind s n) (first_missed (form_meets s n)) h in
-    let value = told_value c (constraint_behind s n) (first_missed (form_meets s n)) h in
-    ap (λ (x : Constraint). Ok x) value ∙ sym (ap (λ m. answer_on m (constraint_behind s n)) (room_decides s n true room none))
+refused_on : (s : Progress) (m : Option Condition) (x : Constraint) (k : Kind) → IsOrMemory (Err (Refused k)) (answer_on m x) → taken_on true s m x ≡ Err k
+refused_on s None x k h = absurd (cc h)
+refused_on s (Some j) x k h = let e : k ≡ kind_of j = cc in ap (λ (y : Kind). Err y) (sym e)
 
-pub many_so : (s : Progress) (n : Node) (c : Constraint) → IsOrMemory (Ok c) (answer (form_meets s n) (constraint_behind s n)) → nat_lt (length s.constraints) most_constraints ≡ false → Err (Refused Many) ≡ answer (constraint_meets s n) (constraint_behind s n)
-many_so s n c h full =
-    let none = told_none c (constraint_behind s n) (first_missed (form_meets s n)) h in
-    sym (ap (λ m. answer_on m (constraint_behind s n)) (room_decides s n false full none))
+-- one that is refused is at fault of that kind
+pub taken_refused : (s : Progress) (c : Concrete) (k : Kind) → IsOrMemory (Err (Refused k)) (answer (form_meets s c) (constraint_behind s c)) → taken true s c ≡ Err k
+taken_refused s c k h = refused_on s (first_missed (form_meets s c)) (constraint_behind s c) k h
 
--- the outcome of a constraint that is read is by its judgement
-pub unit_judged : (s : Progress) (n : Node) (c : Constraint) (fault : Option Kind) → IsOrMemory (Ok c) (answer (constraint_meets s n) (constraint_behind s n)) → fault ≡ result_err (judged (spans_of s.declared.decls) c)
-    → outcome s (constraint_unit n ∷ []) ≡ kind_or fault n.place (Ok (with_constraint s c))
-unit_judged s n c fault h is =
-    let none = told_none c (constraint_behind s n) (first_missed (constraint_meets s n)) h in
-    let value = told_value c (constraint_behind s n) (first_missed (constraint_meets s n)) h in
-    let judgement : Constraint → Option Kind = λ x. result_err (judged (spans_of s.declared.decls) x) in
-    ap (λ m. fault_or m n.place (kind_or (judgement (constraint_behind s n)) n.place (Ok (with_constraint s (constraint_behind s n))))) none
-    ∙ ap (λ (x : Constraint). kind_or (judgement x) n.place (Ok (with_constraint s x))) (sym value)
-    ∙ ap (λ f. kind_or f n.place (Ok (with_constraint s c))) (sym is)
+-- a judgement by its two halves, within the bounds and of the magnitude
+in_size : (w : Bool) → result_err (if w then Ok (tt {0}) else Err Range) ≡ (if w then None else Some Range)
+in_size true = refl
+in_size false = refl
 
--- the fault of a constraint that is refused
-pub unit_refused : (s : Progress) (n : Node) (k : Kind) → IsOrMemory (Err (Refused k)) (answer (constraint_meets s n) (constraint_behind s n)) → outcome s (constraint_unit n ∷ []) ≡ Err (record { kind = k; place = n.place })
-unit_refused s n k h = refused_fault (first_missed (constraint_meets s n)) (constraint_behind s n) k n.place _ h
+in_two : (v w : Bool) → result_err (if v then (if w then Ok (tt {0}) else Err Range) else Err Logic) ≡ first_fault (if v then None else Some Logic) (if w then None else Some Range)
+in_two true w = in_size w
+in_two false w = refl
+
+on_bounds : (r : Result Bounds Kind) (m : ℕ) → result_err (judged_bounds m r) ≡ first_fault (truth_fault r) (fault_of_magnitude m)
+on_bounds (Ok b) m = in_two (is_truth b) (nat_le m magnitudes)
+on_bounds (Err k) m = refl
+
+pub judged_fault : (ss : List Bounds) (c : Constraint) → result_err (judged ss c) ≡ fault_of true ss c
+judged_fault ss (Intension e) = on_bounds (bounds ss e) (mag ss (Intension e))
+judged_fault ss (Cumulative a b x e f) = in_two (are_tasks ss b x) (nat_le (mag ss (Cumulative a b x e f)) magnitudes)
+judged_fault ss (Extension a b x) = in_size (nat_le (mag ss (Extension a b x)) magnitudes)
+judged_fault ss (Unary a b x) = in_size (nat_le (mag ss (Unary a b x)) magnitudes)
+judged_fault ss (Regular a b x e) = in_size (nat_le (mag ss (Regular a b x e)) magnitudes)
+judged_fault ss (Mdd a b x e) = in_size (nat_le (mag ss (Mdd a b x e)) magnitudes)
+judged_fault ss (AllDifferent a b) = in_size (nat_le (mag ss (AllDifferent a b)) magnitudes)
+judged_fault ss (DifferentLists a) = in_size (nat_le (mag ss (DifferentLists a)) magnitudes)
+judged_fault ss (DifferentMatrix a) = in_size (nat_le (mag ss (DifferentMatrix a)) magnitudes)
+judged_fault ss (AllEqual a) = in_size (nat_le (mag ss (AllEqual a)) magnitudes)
+judged_fault ss (Ordered a b x) = in_size (nat_le (mag ss (Ordered a b x)) magnitudes)
+judged_fault ss (Lex a b) = in_size (nat_le (mag ss (Lex a b)) magnitudes)
+judged_fault ss (LexMatrix a b) = in_size (nat_le (mag ss (LexMatrix a b)) magnitudes)
+judged_fault ss (Sum a b x) = in_size (nat_le (mag ss (Sum a b x)) magnitudes)
+judged_fault ss (Count a b x) = in_size (nat_le (mag ss (Count a b x)) magnitudes)
+judged_fault ss (NValues a b x) = in_size (nat_le (mag ss (NValues a b x)) magnitudes)
+judged_fault ss (Cardinality a b x e) = in_size (nat_le (mag ss (Cardinality a b x e)) magnitudes)
+judged_fault ss (Minimum a b) = in_size (nat_le (mag ss (Minimum a b)) magnitudes)
+judged_fault ss (Maximum a b) = in_size (nat_le (mag ss (Maximum a b)) magnitudes)
+judged_fault ss (Element a b x e) = in_size (nat_le (mag ss (Element a b x e)) magnitudes)
+judged_fault ss (ElementMatrix a b x e f g) = in_size (nat_le (mag ss (ElementMatrix a b x e f g)) magnitudes)
+judged_fault ss (Channel a b) = in_size (nat_le (mag ss (Channel a b)) magnitudes)
+judged_fault ss (ChannelTwo a b x e) = in_size (nat_le (mag ss (ChannelTwo a b x e)) magnitudes)
+judged_fault ss (ChannelValue a b x) = in_size (nat_le (mag ss (ChannelValue a b x)) magnitudes)
+judged_fault ss (NoOverlap a b x) = in_size (nat_le (mag ss (NoOverlap a b x)) magnitudes)
+judged_fault ss (Circuit a b x) = in_size (nat_le (mag ss (Circuit a b x)) magnitudes)
+judged_fault ss (Instantiation a b) = in_size (nat_le (mag ss (Instantiation a b)) magnitudes)

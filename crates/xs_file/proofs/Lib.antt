@@ -1,5 +1,10 @@
+mod AcceptedLemmas
 mod ChildLemmas
 mod ConstraintLemmas
-mod OutcomeLemmas
+mod DenotedLemmas
+mod GoalLemmas
+mod LooserLemmas
 mod ReadingLemmas
+mod RunLemmas
 mod SoundLemmas
+mod UnlimitedLemmas

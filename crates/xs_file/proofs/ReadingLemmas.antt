@@ -1,5 +1,5 @@
 -- A text has one answer.
-use Rattle.std.proofs.Common.{◌≡◌, ℕ, List, Result, Ok, Err, IfOk, IfErr, ◌⊎◌, inl, inr, refl, sym, ap, ◌∙◌}
+use Rattle.std.proofs.Common.{◌≡◌, ℕ, true, List, Result, Ok, Err, IfOk, IfErr, ◌⊎◌, inl, inr, refl, sym, ap, ◌∙◌}
 use Rattle.xf_markup.specs.declared.tree.Node.{Node}
 use Rattle.xf_markup.specs.Reading.{ShallowTree}
 use Rattle.xf_markup.proofs.Alone.{not_tree_and_deep, not_unread_and_deep, one_deep_place, one_place, tree_is_read}
@@ -12,15 +12,15 @@ use Rattle.xs_file.specs.Sections.{Progress, instance_of, instance_outcome}
 use Rattle.xs_model.specs.declared.instance.Instance.{Instance}
 
 -- of two trees of a text, what is read of the one is what is read of the other
-same_outcome : (text : List ℕ) (n m : Node) → ShallowTree n text → ShallowTree m text → instance_outcome n ≡ instance_outcome m
-same_outcome text n m h k = ap instance_outcome (one_tree text n m h.0 k.0)
+same_outcome : (text : List ℕ) (n m : Node) → ShallowTree n text → ShallowTree m text → instance_outcome true n ≡ instance_outcome true m
+same_outcome text n m h k = ap (instance_outcome true) (one_tree text n m h.0 k.0)
 
 ok_same : (r : Result Progress Fault) (a b : Progress) → r ≡ Ok a → r ≡ Ok b → a ≡ b
 ok_same r a b h k = cc
 
 one_instance : (text : List ℕ) (i j : Instance) → Spells text i → Spells text j → i ≡ j
 one_instance text i j h k =
-    let same : h.read ≡ k.read = ok_same (instance_outcome k.root) h.read k.read (same_outcome text k.root h.root k.tree h.tree ∙ h.meets) k.meets in
+    let same : h.read ≡ k.read = ok_same (instance_outcome true k.root) h.read k.read (same_outcome text k.root h.root k.tree h.tree ∙ h.meets) k.meets in
     h.instance ∙ ap instance_of same ∙ sym k.instance
 
 fault_same : (f g : Fault) → f.kind ≡ g.kind → f.place ≡ g.place → f ≡ g
@@ -44,7 +44,7 @@ one_fault text f g (inr (inl h)) (inr (inl k)) = fault_same f g (h.kind ∙ sym 
 one_fault text f g (inr (inl h)) (inr (inr k)) = absurd (not_deep text k.root f k.tree h)
 one_fault text f g (inr (inr h)) (inl k) = absurd (no_tree text h.root g h.tree k)
 one_fault text f g (inr (inr h)) (inr (inl k)) = absurd (not_deep text h.root g h.tree k)
-one_fault text f g (inr (inr h)) (inr (inr k)) = err_same (instance_outcome k.root) f g (same_outcome text k.root h.root k.tree h.tree ∙ h.misses) k.misses
+one_fault text f g (inr (inr h)) (inr (inr k)) = err_same (instance_outcome true k.root) f g (same_outcome text k.root h.root k.tree h.tree ∙ h.misses) k.misses
 
 never_both : (text : List ℕ) (i : Instance) (f : Fault) → Spells text i → IsFaulty text f → ⊥
 never_both text i f h (inl k) = no_tree text h.root f h.tree k

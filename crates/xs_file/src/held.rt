@@ -2,30 +2,25 @@
 
 ghost use Rattle.std.specs.Prelude.{◌≡◌, ◌≤◌, ◌<◌, nat_lt, length, IfOk, OnOk, OnErr};
 ghost use Rattle.xs_file.specs.Sections.{begun, instance_of, left_of, with_constraint};
-ghost use Rattle.xs_model.specs.Outline.{outlines_of, variables_in};
 ghost use Rattle.xs_model.specs.Spans.{spans_of};
 ghost use Rattle.xs_model.specs.Accepted.{IsAccepted, IsMeasured, IsSoundConstraint, items_of, most_constraints};
 ghost use Rattle.xs_file.specs.Held.{IsWhole};
-ghost use Rattle.xs_vars.specs.Declarations.{declared_of};
 
 use std::alloc::Global;
 use std::marker::Model;
-use xf_num::{NoMemory, Row, Span, Spans};
-use xs_model::{Constraint, Constraints, Instance, Names, count_items, spans};
-use xs_vars::Declarations;
+use xf_num::{MAX_CONSTRAINTS, MAX_ITEMS, NoMemory, Row, Span, Spans};
+use xs_forms::count_items;
+use xs_model::{Constraint, Constraints, Decls, Instance, Objective, spans};
 
-/// The greatest number of items: values of domains, and members of lists.
-const MOST_ITEMS: u64 = 4_194_304;
-
-/// The greatest number of constraints.
-const MOST_CONSTRAINTS: usize = 67_108_864;
-
-/// The declarations and the constraints that are read so far, within the limits on what is read.
+/// The declarations, the constraints and the objective that are read so far, within the limits on what is read.
 #[derive(Drop)]
 pub struct Held {
-    declarations: Declarations,
+    decls: Decls,
+    cells: u64,
+    values: u64,
     spans: Spans,
     constraints: Constraints,
+    objective: Option<Objective>,
     items: u64,
 }
 
@@ -39,32 +34,27 @@ impl Model for Held {
 
     ghost coded = { Prim.hlevel (codes, e.the_row.coded) };
 
-    ghost view = { λ h. progress_of h.declarations h.constraints };
+    ghost view = { λ h. progress_of (record { decls = h.decls; cells = h.cells; values = h.values }) h.constraints h.objective };
 
-    ghost invariant = { λ h. IsHeld h.declarations h.spans h.constraints h.items };
+    ghost invariant = { λ h. IsHeld (record { decls = h.decls; cells = h.cells; values = h.values }) h.spans h.constraints h.objective h.items };
 }
 
 impl Held {
-    /// The declarations, and no constraint yet.
-    pub fn new(alloc: Global, declarations: Declarations) -> Result<Held, NoMemory>
-        requires { IsWhole declarations }
-        ensures { IfOk result (λ h. h ≡ begun (declared_of declarations)) }
+    /// The declarations, and no constraint and no objective yet.
+    pub fn new(alloc: Global, decls: Decls, cells: u64, values: u64) -> Result<Held, NoMemory>
+        requires { IsWhole (record { decls = decls; cells = cells; values = values }) }
+        ensures { IfOk result (λ h. h ≡ begun (record { decls = decls; cells = cells; values = values })) }
     {
-        let spans = spans(alloc, declarations.decls.as_slice())?;
-        let items = declarations.values;
+        let spans = spans(alloc, decls.as_slice())?;
         Ok(Held {
-            declarations,
+            decls,
+            cells,
+            values,
             spans,
             constraints: Row::new(alloc),
-            items,
+            objective: None,
+            items: values,
         })
-    }
-
-    /// The names of the declarations.
-    pub fn names(&self) -> &Names
-        ensures { result.now ≡ outlines_of self.now.declared.decls }
-    {
-        &self.declarations.names
     }
 
     /// The bounds of the variables.
@@ -78,14 +68,14 @@ impl Held {
     pub fn left(&self) -> u64
         ensures { result ≡ left_of self.now }
     {
-        MOST_ITEMS - self.items
+        MAX_ITEMS - self.items
     }
 
     /// Whether one more constraint is within the limit.
     pub fn has_room(&self) -> bool
         ensures { result ≡ nat_lt (length self.now.constraints) most_constraints }
     {
-        self.constraints.len() < MOST_CONSTRAINTS
+        self.constraints.len() < MAX_CONSTRAINTS
     }
 
     /// Appends a constraint, or changes nothing.
@@ -108,11 +98,13 @@ impl Held {
         ensures value { result ≡ instance_of self }
         ensures accepted { IsAccepted result }
     {
-        let declarations = self.declarations;
+        let decls = self.decls;
         let constraints = self.constraints;
+        let objective = self.objective;
         Instance {
-            decls: declarations.decls,
+            decls,
             constraints,
+            objective,
         }
     }
 }

@@ -3,14 +3,14 @@
 ghost use Rattle.std.specs.Prelude.{◌≡◌, IfOk, length, nat_le};
 ghost use Rattle.std.specs.Option.{option_map};
 ghost use Rattle.xs_fields.specs.Conditions.{first_missed};
-ghost use Rattle.xs_file.specs.Sections.{are_distinct, are_sections, constraints_meet, instance_meets, is_instance_known, is_problem_type, names_of, objectives_meet};
+ghost use Rattle.xs_file.specs.Sections.{are_distinct, are_sections, instance_meets, is_instance_known, is_problem_type, names_of, objectives_meet};
 ghost use Rattle.xs_var.specs.Elements.{children_of, is_one_of};
 
 use std::alloc::Global;
 use xf_markup::{Node, Piece};
 use xf_num::NoMemory;
 use xs_fields::{Condition, earlier, is_blank};
-use xs_relate::next_child;
+use xs_units::next_child;
 use xs_var::{
     are_children_known, attribute, has_only, is_one_of, judge_known, judge_spelling, text_of,
 };
@@ -97,18 +97,6 @@ pub fn judge_instance(alloc: Global, node: &Node) -> Result<Option<Condition>, N
     }
     let text = text_of(alloc, node)?;
     Ok(judge_spelling(is_blank(text.as_slice()) && are_sections(node.pieces.as_slice())))
-}
-
-/// What `constraints` misses first by itself.
-pub fn judge_constraints(alloc: Global, node: &Node) -> Result<Option<Condition>, NoMemory>
-    ensures { IfOk result (λ missed. missed ≡ first_missed (constraints_meet node.now)) }
-{
-    let text = text_of(alloc, node)?;
-    let known = has_only(node.attrs.as_slice(), &[b"id", b"class", b"note"]);
-    Ok(earlier(
-        judge_known(known),
-        judge_spelling(is_blank(text.as_slice())),
-    ))
 }
 
 /// What `objectives` misses first by itself.

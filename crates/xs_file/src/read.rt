@@ -3,7 +3,7 @@
 ghost use Rattle.std.specs.Prelude.{◌≡◌, ◌⊎◌, Ok, Err, IfOk, IfErr};
 ghost use Rattle.xf_text.specs.declared.fault.Fault.{Fault as TheFault};
 ghost use Rattle.xf_text.specs.declared.fault.Stop.TheVariants.{Memory, Refused};
-ghost use Rattle.xs_file.specs.Reading.{IsFaulty, IsRefusal, OneReading, Spells};
+ghost use Rattle.xs_file.specs.Reading.{IsFaulty, IsRefusal, OneDenoted, OneReading, SpeltIsAccepted, Spells};
 ghost use Rattle.xs_model.specs.Accepted.{IsAccepted};
 ghost use Rattle.xs_model.specs.declared.instance.Instance.{Instance as TheInstance};
 
@@ -40,4 +40,15 @@ pub fn read_instance(alloc: Global, text: &[u8]) -> Result<Instance, Stop>
 /// never both.
 pub fn one_reading()
     ensures { OneReading }
+{}
+
+/// Does nothing: its clause is the law of what a text denotes, where no limit on what is read is asked. A text denotes the
+/// instance that it spells, and at most one.
+pub fn one_denoted()
+    ensures { OneDenoted }
+{}
+
+/// Does nothing: its clause says that what a text spells is sound, and within the limits on what is read.
+pub fn spelt_is_accepted()
+    ensures { SpeltIsAccepted }
 {}

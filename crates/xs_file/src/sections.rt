@@ -1,189 +1,115 @@
 //! The sections of an instance.
 
-ghost use Rattle.std.specs.Prelude.{◌≡◌, ◌≢◌, ◌≤◌, ◌<◌, ◌∷◌, [], map, nat_lt, length, None, IfOk, OnOk, MatchOption};
-ghost use Rattle.std.specs.List.{flat_map};
-ghost use Rattle.std.specs.Result.{result_err};
+ghost use Rattle.std.specs.Prelude.{◌≡◌, ◌≢◌, ◌∷◌, [], length, map, nat_le, true, Ok, IfOk, MatchOption};
 ghost use Rattle.xf_text.specs.declared.fault.Stop.TheVariants.{Refused as StopRefused};
-ghost use Rattle.xs_fields.specs.Conditions.{IsOrMemory, answer, kind_of};
-ghost use Rattle.xs_file.specs.Sections.{Progress, begun, behind_declared, constraint_behind, constraint_meets, constraint_unit, constraints_meet, container_unit, form_meets, instance_outcome, left_of, objective_unit, objectives_meet, section_units, sections_outcome, with_constraint};
-ghost use Rattle.xs_model.specs.Outline.{outlines_of, variables_in};
-ghost use Rattle.xs_model.specs.Spans.{spans_of};
-ghost use Rattle.xs_model.specs.Accepted.{IsFormed, IsMeasured, IsSoundConstraint, items_of, most_constraints};
-ghost use Rattle.xs_model.specs.Magnitude.{judged};
+ghost use Rattle.xs_fields.specs.Conditions.{kind_of};
+ghost use Rattle.xs_file.specs.Held.{IsWhole};
+ghost use Rattle.xs_file.specs.Sections.{begun, constraints_outcome, instance_outcome, objective_unit, objectives_units, section_outcome, sections_behind, sections_outcome};
+ghost use Rattle.xs_model.specs.Outline.{outlines_of};
 ghost use Rattle.xs_var.specs.Elements.{children_of};
 ghost use Rattle.xs_var.specs.Taken.{IsRead};
 ghost use Rattle.xs_var.specs.Units.{outcome};
-ghost use Rattle.xs_vars.specs.Declarations.{variables_outcome};
+ghost use Rattle.xs_vars.specs.Declarations.{declared_of};
 
 use crate::held::Held;
-use crate::judge::{judge_constraints, judge_instance, judge_objectives};
+use crate::judge::{judge_instance, judge_objectives};
+use crate::lent::Lent;
+use crate::objective::read_objective;
 use std::alloc::Global;
 use xf_markup::{Node, Piece};
-use xf_num::{NoMemory, Row};
-use xf_text::{Fault, FieldStop, Kind, Stop};
-use xs_expr::judge;
+use xf_num::Row;
+use xf_text::{Fault, Stop};
+use xs_expand::walk_section;
 use xs_fields::Condition;
-use xs_model::Constraint;
-use xs_relate::{next_child, read_different, read_intension};
-use xs_vars::read_declarations;
-
-// A unit at this place has a fault of this kind.
-fn fault(kind: Kind, place: u64) -> Stop
-    ensures { result ≡ StopRefused (record { kind = kind; place = place }) }
-{
-    Stop::Refused(Fault { kind, place })
-}
+use xs_model::Names;
+use xs_units::{Known, next_child};
+use xs_vars::{Declarations, read_declarations};
 
 // A unit at this place misses the condition first.
 fn refused(missed: Condition, place: u64) -> Stop
     ensures { result ≡ StopRefused (record { kind = kind_of missed; place = place }) }
 {
-    fault(missed.kind(), place)
-}
-
-// The constraint of a form that is known.
-fn read_form(alloc: Global, node: &Node, held: &Held) -> Result<Constraint, FieldStop>
-    ensures value { IsOrMemory result (answer (form_meets held.now node.now) (constraint_behind held.now node.now)) }
-    ensures formed { IfOk result (λ c. IsFormed (variables_in (outlines_of held.now.declared.decls)) c) }
-    ensures few { IfOk result (λ c. items_of c ≤ left_of held.now) }
-{
-    let name = node.name.as_slice();
-    if name == b"allDifferent".as_slice() {
-        read_different(alloc, node, held.names(), held.left())
-    } else if name == b"intension".as_slice() {
-        read_intension(alloc, node, held.names(), held.left())
-    } else {
-        Err(FieldStop::Refused(Kind::Unknown))
-    }
-}
-
-// The constraint of a child of `constraints`, behind what is read.
-fn read_constraint(alloc: Global, node: &Node, held: &Held) -> Result<Constraint, FieldStop>
-    ensures value { IsOrMemory result (answer (constraint_meets held.now node.now) (constraint_behind held.now node.now)) }
-    ensures formed { IfOk result (λ c. IsFormed (variables_in (outlines_of held.now.declared.decls)) c) }
-    ensures few { IfOk result (λ c. items_of c ≤ left_of held.now) }
-    ensures room { OnOk result (length held.now.constraints < most_constraints) }
-{
-    match read_form(alloc, node, held) {
-        Ok(constraint) if held.has_room() => Ok(constraint),
-        Ok(_) => Err(FieldStop::Refused(Kind::Many)),
-        Err(stop) => Err(stop),
-    }
-}
-
-// Whether a constraint is in order within the bounds of the variables.
-fn judge_constraint(constraint: &Constraint, held: &Held) -> Result<(), Kind>
-    requires { IsFormed (variables_in (outlines_of held.now.declared.decls)) constraint.now }
-    ensures value { result ≡ judged (spans_of held.now.declared.decls) constraint.now }
-    ensures sound { OnOk result (IsSoundConstraint (spans_of held.now.declared.decls) constraint.now) }
-    ensures measured { OnOk result (IsMeasured (spans_of held.now.declared.decls) constraint.now) }
-{
-    judge(constraint, held.spans())
-}
-
-// Appends a constraint that is in order; else the kind of its fault.
-fn add_judged(constraint: Constraint, held: &mut Held) -> Result<Option<Kind>, NoMemory>
-    requires formed { IsFormed (variables_in (outlines_of held.old.declared.decls)) constraint }
-    requires items { items_of constraint ≤ left_of held.old }
-    requires few { length held.old.constraints < most_constraints }
-    ensures value { IfOk result (λ fault. fault ≡ result_err (judged (spans_of held.old.declared.decls) constraint)) }
-    ensures added { IfOk result (λ fault. fault ≡ None → held.new ≡ with_constraint held.old constraint) }
-{
-    match judge_constraint(&constraint, held) {
-        Ok(()) => {
-            held.add(constraint)?;
-            Ok(None)
-        }
-        Err(kind) => Ok(Some(kind)),
-    }
-}
-
-// Appends the constraint of a child of `constraints`.
-fn add_constraint(alloc: Global, node: &Node, held: &mut Held) -> Result<(), Stop>
-    ensures { IsRead (λ _. held.new) result (outcome held.old (constraint_unit node.now ∷ [])) }
-{
-    match read_constraint(alloc, node, held) {
-        Ok(constraint) => match add_judged(constraint, held)? {
-            Some(kind) => Err(fault(kind, node.place)),
-            None => Ok(()),
-        },
-        Err(FieldStop::Refused(kind)) => Err(fault(kind, node.place)),
-        Err(FieldStop::Memory) => Err(Stop::Memory),
-    }
-}
-
-// Appends the constraints of all children.
-fn add_constraints(alloc: Global, pieces: &[Piece], held: &mut Held) -> Result<(), Stop>
-    ensures { IsRead (λ _. held.new) result (outcome held.old (map constraint_unit (children_of pieces.now))) }
-{
-    let mut rest = pieces;
-    while let Some((node, more)) = next_child(rest) {
-        match add_constraint(alloc, node, held) {
-            Ok(()) => rest = more,
-            Err(stop) => return Err(stop),
-        }
-    }
-    Ok(())
+    Stop::Refused(Fault {
+        kind: missed.kind(),
+        place,
+    })
 }
 
 // Appends the constraints of `constraints`.
-fn read_constraints(alloc: Global, node: &Node, held: &mut Held) -> Result<(), Stop>
-    ensures { IsRead (λ _. held.new) result (outcome held.old (container_unit constraints_meet node.now ∷ map constraint_unit (children_of node.now.pieces))) }
+fn read_constraints(alloc: Global, names: &Names, node: &Node, held: Held) -> Result<Held, Stop>
+    requires { names.now ≡ outlines_of held.declared.decls }
+    ensures outcome { IsRead (λ h. h) result (constraints_outcome true held node.now) }
+    ensures declared { IfOk result (λ h. h.declared ≡ held.declared) }
 {
-    let missed = judge_constraints(alloc, node)?;
-    match missed {
-        Some(missed) => Err(refused(missed, node.place)),
-        None => add_constraints(alloc, node.pieces.as_slice(), held),
+    let mut known = Known {
+        words: 0,
+        state: Lent::new(alloc, names, held),
+    };
+    let fault = walk_section(alloc, names, node, &mut known)?;
+    let Known { words: _, state } = known;
+    match fault {
+        Some(fault) => Err(Stop::Refused(fault)),
+        None => Ok(state.into_held()),
     }
 }
 
-// No objective is known.
-fn read_objective(pieces: &[Piece]) -> Result<(), Stop>
-    ensures { (s : Progress) → IsRead (λ _. s) result (outcome s (map objective_unit (children_of pieces.now))) }
+// The objective, where there is one; no second stands beside it.
+fn read_only(pieces: &[Piece], held: Held) -> Result<Held, Stop>
+    requires { nat_le (length (children_of pieces.now)) 1 ≡ true }
+    ensures outcome { IsRead (λ h. h) result (outcome held (map (objective_unit true) (children_of pieces.now))) }
+    ensures declared { IfOk result (λ h. h.declared ≡ held.declared) }
 {
     match next_child(pieces) {
-        Some((objective, _)) => Err(refused(Condition::Known, objective.place)),
-        None => Ok(()),
+        Some((objective, _)) => read_objective(objective, held),
+        None => Ok(held),
     }
 }
 
-// What `objectives` holds changes nothing of what is read.
-fn read_objectives(alloc: Global, node: &Node) -> Result<(), Stop>
-    ensures { (s : Progress) → IsRead (λ _. s) result (outcome s (container_unit objectives_meet node.now ∷ map objective_unit (children_of node.now.pieces))) }
+// What `objectives` holds.
+fn read_objectives(alloc: Global, node: &Node, held: Held) -> Result<Held, Stop>
+    ensures outcome { IsRead (λ h. h) result (outcome held (objectives_units true node.now)) }
+    ensures declared { IfOk result (λ h. h.declared ≡ held.declared) }
 {
     let missed = judge_objectives(alloc, node)?;
     match missed {
         Some(missed) => Err(refused(missed, node.place)),
-        None => read_objective(node.pieces.as_slice()),
+        None => read_only(node.pieces.as_slice(), held),
     }
 }
 
 // A section behind `variables`; `annotations` is dropped.
-fn read_section(alloc: Global, node: &Node, held: &mut Held) -> Result<(), Stop>
-    ensures { IsRead (λ _. held.new) result (outcome held.old (section_units node.now)) }
+fn read_section(alloc: Global, names: &Names, node: &Node, held: Held) -> Result<Held, Stop>
+    requires { names.now ≡ outlines_of held.declared.decls }
+    ensures outcome { IsRead (λ h. h) result (section_outcome true held node.now) }
+    ensures declared { IfOk result (λ h. h.declared ≡ held.declared) }
 {
     let name = node.name.as_slice();
     if name == b"constraints".as_slice() {
-        read_constraints(alloc, node, held)
+        read_constraints(alloc, names, node, held)
     } else if name == b"objectives".as_slice() {
-        read_objectives(alloc, node)
+        read_objectives(alloc, node, held)
     } else {
-        Ok(())
+        Ok(held)
     }
 }
 
 // The sections behind `variables`.
-fn read_rest(alloc: Global, pieces: &[Piece], held: &mut Held) -> Result<(), Stop>
-    ensures { IsRead (λ _. held.new) result (outcome held.old (flat_map section_units (children_of pieces.now))) }
+fn read_rest(alloc: Global, names: &Names, pieces: &[Piece], held: Held) -> Result<Held, Stop>
+    requires { names.now ≡ outlines_of held.declared.decls }
+    ensures { IsRead (λ h. h) result (sections_behind true (Ok held) (children_of pieces.now)) }
 {
+    let mut held = held;
     let mut rest = pieces;
     while let Some((node, more)) = next_child(rest) {
-        match read_section(alloc, node, held) {
-            Ok(()) => rest = more,
+        match read_section(alloc, names, node, held) {
+            Ok(next) => {
+                held = next;
+                rest = more;
+            }
             Err(stop) => return Err(stop),
         }
     }
-    Ok(())
+    Ok(held)
 }
 
 // Takes out the first child. An empty text is left at its place, so that the other children are those of the pieces.
@@ -200,26 +126,31 @@ fn take_child(alloc: Global, pieces: &mut Row<Piece>) -> Option<Node>
     None
 }
 
-// The declarations of `variables`, which is let go while it is read.
-fn read_first(alloc: Global, node: Node) -> Result<Held, Stop>
-    ensures outcome { IsRead (λ h. h.declared) result (variables_outcome node) }
-    ensures begun { IfOk result (λ h. h ≡ begun h.declared) }
+// The sections behind what is declared.
+fn read_behind(alloc: Global, declarations: Declarations, pieces: &[Piece]) -> Result<Held, Stop>
+    requires names { declarations.names ≡ outlines_of declarations.decls }
+    requires whole { IsWhole (declared_of declarations) }
+    ensures { IsRead (λ h. h) result (sections_behind true (Ok (begun (declared_of declarations))) (children_of pieces.now)) }
 {
-    let declarations = read_declarations(alloc, node)?;
-    let held = Held::new(alloc, declarations)?;
-    Ok(held)
+    let Declarations {
+        decls,
+        names,
+        cells,
+        values,
+    } = declarations;
+    let held = Held::new(alloc, decls, cells, values)?;
+    read_rest(alloc, &names, pieces, held)
 }
 
-// `variables`, which is the first child, and the sections behind it.
+// `variables`, which is the first child and is let go while it is read, and the sections behind it.
 fn read_sections(alloc: Global, mut pieces: Row<Piece>) -> Result<Held, Stop>
     requires { children_of pieces ≢ [] }
-    ensures { IsRead (λ h. h) result (sections_outcome (children_of pieces)) }
+    ensures { IsRead (λ h. h) result (sections_outcome true (children_of pieces)) }
 {
     match take_child(alloc, &mut pieces) {
         Some(variables) => {
-            let mut held = read_first(alloc, variables)?;
-            read_rest(alloc, pieces.as_slice(), &mut held)?;
-            Ok(held)
+            let declarations = read_declarations(alloc, variables)?;
+            read_behind(alloc, declarations, pieces.as_slice())
         }
         None => unreachable!(),
     }
@@ -227,7 +158,7 @@ fn read_sections(alloc: Global, mut pieces: Row<Piece>) -> Result<Held, Stop>
 
 /// What is read of an instance. Refused exactly where a unit misses a condition, with the fault of the first.
 pub fn read_root(alloc: Global, node: Node) -> Result<Held, Stop>
-    ensures { IsRead (λ h. h) result (instance_outcome node) }
+    ensures { IsRead (λ h. h) result (instance_outcome true node) }
 {
     let missed = judge_instance(alloc, &node)?;
     match missed {

@@ -9,8 +9,9 @@ fn items(instance: &Instance) -> usize {
     let mut count: usize = 0;
     for constraint in instance.constraints.as_slice() {
         match constraint {
-            Constraint::AllDifferent { list } => count = count.saturating_add(list.len()),
+            Constraint::AllDifferent { list, .. } => count = count.saturating_add(list.len()),
             Constraint::Intension { .. } => count = count.saturating_add(1),
+            _ => (),
         }
     }
     count
@@ -172,18 +173,18 @@ fn refuses_sections(rt: HostRuntime) -> Result<(), Fail> {
             70,
         ),
         (
-            b"<instance><variables><var id=\"x\"> 0..1 </var></variables><constraints><block/></constraints></instance>",
-            Kind::Unknown,
+            b"<instance><variables><var id=\"x\"> 0..1 </var></variables><constraints><block> x </block></constraints></instance>",
+            Kind::Shape,
             70,
         ),
         (
             b"<instance><variables><var id=\"x\"> 0..1 </var></variables><constraints><group> 0 </group></constraints></instance>",
-            Kind::Unknown,
+            Kind::Shape,
             70,
         ),
         (
             b"<instance><variables><var id=\"x\"> 0..1 </var></variables><constraints><slide/></constraints></instance>",
-            Kind::Unknown,
+            Kind::Shape,
             70,
         ),
         (
@@ -306,6 +307,69 @@ fn refuses_by_the_first_unit(rt: HostRuntime) -> Result<(), Fail> {
             b"<instance><variables><var id=\"x\"> 0..1 </var></variables><constraints><stretch/></constraints><objectives><minimize/></objectives></instance>",
             Kind::Unknown,
             70,
+        ),
+    ];
+    for (text, kind, place) in rows {
+        assert_eq!(rt; fault(rt.alloc(), text), Some(Fault { kind, place }));
+    }
+    Ok(())
+}
+
+// Blocks, groups and slides: what is read of them, and the first fault.
+#[test]
+fn reads_containers(rt: HostRuntime) -> Result<(), Fail> {
+    let rows: [(&[u8], usize, usize); 3] = [
+        (
+            b"<instance><variables><array id=\"x\" size=\"[3]\"> 0..2 </array></variables><constraints><group><intension> eq(%0,%1) </intension><args> x[0] 1 </args><args> x[1..2] </args></group><block><slide><list> x[] </list><intension> le(%0,%1) </intension></slide></block><allDifferent> x[] </allDifferent></constraints></instance>",
+            5,
+            7,
+        ),
+        (
+            b"<instance><variables><array id=\"x\" size=\"[3]\"> 0..2 </array></variables><constraints><group><allDifferent> %... </allDifferent><args/><args> x[] x[0] </args></group></constraints></instance>",
+            2,
+            4,
+        ),
+        (
+            b"<instance><variables><array id=\"x\" size=\"[3]\"> 0..2 </array></variables><constraints><slide circular=\"true\"><list> x[] </list><allDifferent> %1 %0 </allDifferent></slide></constraints></instance>",
+            3,
+            6,
+        ),
+    ];
+    for (text, constraints, count) in rows {
+        let instance = read_instance(rt.alloc(), text)?;
+        assert_eq!(rt; instance.constraints.len(), constraints);
+        assert_eq!(rt; items(&instance), count);
+    }
+    let rows: [(&[u8], Kind, u64); 6] = [
+        (
+            b"<instance><variables><array id=\"x\" size=\"[3]\"> 0..2 </array></variables><constraints><group><intension> eq(%0,1) </intension><args> x[0] </args><args> y </args><args> x[0] x[1] </args></group><stretch/></constraints></instance>",
+            Kind::Name,
+            144,
+        ),
+        (
+            b"<instance><variables><array id=\"x\" size=\"[3]\"> 0..2 </array></variables><constraints><allDifferent> y </allDifferent><group/></constraints></instance>",
+            Kind::Name,
+            85,
+        ),
+        (
+            b"<instance><variables><array id=\"x\" size=\"[3]\"> 0..2 </array></variables><constraints><slide><list> x[] </list><intension> add(%0,%1) </intension></slide><group/></constraints></instance>",
+            Kind::Logic,
+            85,
+        ),
+        (
+            b"<instance><variables><array id=\"x\" size=\"[3]\"> 0..2 </array></variables><constraints><block><intension rank=\"any\"/></block></constraints></instance>",
+            Kind::Unknown,
+            92,
+        ),
+        (
+            b"<instance><variables><array id=\"x\" size=\"[3]\"> 0..2 </array></variables><constraints><group><intension> eq(%0,1) </intension><args> x[] </args></group></constraints></instance>",
+            Kind::Shape,
+            125,
+        ),
+        (
+            b"<instance><variables><array id=\"x\" size=\"[3]\"> 0..2 </array></variables><constraints><slide><list> x[] y </list><allDifferent> %1 </allDifferent></slide></constraints></instance>",
+            Kind::Name,
+            85,
         ),
     ];
     for (text, kind, place) in rows {

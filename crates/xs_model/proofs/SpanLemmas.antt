@@ -1,9 +1,9 @@
 -- The bounds of variables: how many there are, and that the values of the domains lie within them.
-use Rattle.std.proofs.Common.{◌≡◌, ◌++◌, ℕ, ℤ, List, [], ◌∷◌, Option, None, Some, length, map, refl, sym, ◌∙◌, arith}
-use Rattle.std.proofs.lemmas.List.{length-append, length-map, map-append}
+use Rattle.std.proofs.Common.{◌≡◌, ◌++◌, ℤ, List, [], ◌∷◌, Option, None, Some, length, map, refl, ◌∙◌, arith}
+use Rattle.std.proofs.lemmas.List.{length-append, length-map}
 use Rattle.std.specs.List.{AllByRecursion}
 use Rattle.xf_num.proofs.Members.{least_bound, greatest_bound}
-use Rattle.xf_num.specs.Span.{Bounds, IsWithin}
+use Rattle.xf_num.specs.Span.{Bounds}
 use Rattle.xs_model.specs.declared.decl.Decl.{Decl}
 use Rattle.xs_model.specs.declared.decl.Decl.TheVariants.{One, Array}
 use Rattle.xs_model.specs.Instance.{AreMembers}

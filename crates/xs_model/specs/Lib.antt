@@ -1,6 +1,13 @@
 pub mod Names
 pub mod Identifier
 pub mod Value
+pub mod Lists
+pub mod Conditions
+pub mod Language
+pub mod Comparing
+pub mod Counting
+pub mod Schedule
+pub mod Fields
 pub mod Instance
 pub mod Sound
 pub mod Cells
@@ -11,6 +18,9 @@ pub mod Table
 pub mod Shape
 pub mod Bounds
 pub mod Formed
+pub mod Fitting
 pub mod Spans
 pub mod Magnitude
 pub mod Accepted
+pub mod Weight
+pub mod Used

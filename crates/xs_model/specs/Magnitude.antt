@@ -1,12 +1,18 @@
 -- The magnitude of a constraint: the sum of the magnitudes of its items and the square of their number. It is the
 -- program's own measure of how great the sums can grow that a constraint leads to.
-use Rattle.std.specs.Prelude.{ℕ, ◌+◌, ◌*◌, nat_le, List, [], ◌∷◌, ◌++◌, length, map, sum, if◌then◌else◌, Option, Some, None, Result, Ok, Err}
-use Rattle.std.specs.List.{flat_map}
+use Rattle.std.specs.Prelude.{ℕ, ◌+◌, ◌*◌, nat_abs, nat_le, pos, int_le, List, [], ◌∷◌, ◌++◌, length, map, sum, Bool, ◌&&◌, if◌then◌else◌, Option, Some, None, Result, Ok, Err, IsOk, ⊤}
+use Rattle.std.specs.List.{AllByRecursion, flat_map, list_all}
 use Rattle.xf_num.specs.Span.{Bounds, magnitude_of}
 use Rattle.xf_text.specs.declared.fault.Kind.{Kind}
 use Rattle.xf_text.specs.declared.fault.Kind.TheVariants.{Range, Logic}
 use Rattle.xs_model.specs.declared.instance.Constraint.{Constraint}
-use Rattle.xs_model.specs.declared.instance.Constraint.TheVariants.{AllDifferent, Intension}
+use Rattle.xs_model.specs.declared.instance.Constraint.TheVariants.{Intension, Cumulative}
+use Rattle.xs_model.specs.declared.instance.Body.{Body}
+use Rattle.xs_model.specs.declared.instance.Body.TheVariants as body
+use Rattle.xs_model.specs.declared.term.Term.{Term}
+use Rattle.xs_model.specs.declared.term.Term.TheVariants.{Int, Var}
+use Rattle.xs_model.specs.Fields.{Item, Number, Variable, Mark, Field, Items, Expression, Products, item_of, fields_of, body_fields}
+use Rattle.xs_model.specs.Formed.{total, count_in}
 use Rattle.xs_model.specs.declared.expr.Expr.{Expr, fold-Expr}
 use Rattle.xs_model.specs.declared.expr.Expr.TheOpen.{Expr-F}
 use Rattle.xs_model.specs.Sound.{magnitudes}
@@ -48,13 +54,38 @@ weight_step spans (Expr-F.Node op ws) = weight (and_then (all_ok (bounds_below w
 abbrev pub weighed : List Bounds → Expr → Weight
 weighed spans = fold-Expr Weight (weight_step spans)
 
--- the magnitudes of a constraint's items: each member of a list is one, and each node of an expression
-abbrev pub item_magnitudes : List Bounds → Constraint → List ℕ
-item_magnitudes spans (AllDifferent list) = map (λ v. magnitude_of (operand spans v)) list
-item_magnitudes spans (Intension e) = (weighed spans e).nodes
+-- the greatest magnitude of an item within the bounds of the variables; of a state and of `*` it is 0
+abbrev pub item_magnitude : List Bounds → Item → ℕ
+item_magnitude spans (Number z) = nat_abs z
+item_magnitude spans (Variable v) = magnitude_of (operand spans v)
+item_magnitude spans Mark = 0
+
+-- coefficients and list members count once, as their products
+abbrev pub product_magnitudes : List Bounds → List Term → List ℕ → List ℕ
+product_magnitudes spans [] vs = []
+product_magnitudes spans (c ∷ cs) [] = []
+product_magnitudes spans (c ∷ cs) (v ∷ vs) = (item_magnitude spans (item_of c) * item_magnitude spans (Variable v)) ∷ product_magnitudes spans cs vs
+
+abbrev pub field_magnitude : List Bounds → Field → ℕ
+field_magnitude spans (Items is) = total (map (item_magnitude spans) is)
+field_magnitude spans (Expression e) = sum (weighed spans e).nodes
+field_magnitude spans (Products cs vs) = total (product_magnitudes spans cs vs)
+
+-- no expression of a field is at fault
+abbrev pub IsBoundedField : List Bounds → Field → Type 0
+IsBoundedField spans (Items is) = ⊤
+IsBoundedField spans (Expression e) = IsOk (bounds spans e)
+IsBoundedField spans (Products cs vs) = ⊤
+
+abbrev pub AreBounded : List Bounds → List Field → Type 0
+AreBounded spans fs = AllByRecursion (IsBoundedField spans) fs
+
+-- the sum of the magnitudes of the items of fields, and the square of the number of items
+abbrev pub mag_of : List Bounds → List Field → ℕ
+mag_of spans fs = total (map (field_magnitude spans) fs) + count_in fs * count_in fs
 
 abbrev pub mag : List Bounds → Constraint → ℕ
-mag spans c = total_of (item_magnitudes spans c)
+mag spans c = mag_of spans (fields_of c)
 
 -- an expression that is to be a truth value, where no node is at fault and its bounds are these
 abbrev pub judged_root : ℕ → Bounds → Result (Unit {0}) Kind
@@ -66,9 +97,40 @@ judged_bounds m (Err k) = Err k
 
 -- an expression that is to hold: the fault of the first node at fault, else that of the root, else its magnitude
 abbrev pub judged_expr : List Bounds → Expr → Result (Unit {0}) Kind
-judged_expr spans e = judged_bounds (total_of (weighed spans e).nodes) (bounds spans e)
+judged_expr spans e = judged_bounds (mag spans (Intension e)) (bounds spans e)
 
--- the first fault of a constraint that shows in the bounds of its variables: of its expression, or its magnitude
+-- no magnitude past the greatest
+abbrev pub judged_magnitude : List Bounds → Constraint → Result (Unit {0}) Kind
+judged_magnitude spans c = if nat_le (mag spans c) magnitudes then Ok tt else Err Range
+
+-- the bounds of a term
+abbrev pub term_bounds : List Bounds → Term → Bounds
+term_bounds spans (Int z) = exactly z
+term_bounds spans (Var v) = operand spans v
+
+-- terms that are never negative
+abbrev pub are_not_negative : List Bounds → List Term → Bool
+are_not_negative spans ts = list_all (λ t. int_le (pos 0) (term_bounds spans t).lo) ts
+
+-- lengths and heights are not negative
+abbrev pub are_tasks : List Bounds → List Term → List Term → Bool
+are_tasks spans lengths heights = are_not_negative spans lengths && are_not_negative spans heights
+
+-- the first fault of a constraint that shows in the bounds of its variables: of its expression, or of the lengths and
+-- heights of its tasks, or its magnitude
 abbrev pub judged : List Bounds → Constraint → Result (Unit {0}) Kind
-judged spans (AllDifferent list) = if nat_le (mag spans (AllDifferent list)) magnitudes then Ok tt else Err Range
 judged spans (Intension e) = judged_expr spans e
+judged spans (Cumulative origins lengths heights ends cond) = if are_tasks spans lengths heights then judged_magnitude spans (Cumulative origins lengths heights ends cond) else Err Logic
+judged spans c = judged_magnitude spans c
+
+-- what is to be least or greatest: the fault of the first node at fault, else its magnitude
+abbrev pub judged_size : ℕ → Result (Unit {0}) Kind
+judged_size m = if nat_le m magnitudes then Ok tt else Err Range
+
+abbrev pub judged_value : ℕ → Result Bounds Kind → Result (Unit {0}) Kind
+judged_value m (Ok b) = judged_size m
+judged_value m (Err k) = Err k
+
+abbrev pub judged_body : List Bounds → Body → Result (Unit {0}) Kind
+judged_body spans (body.Value e) = judged_value (mag_of spans (body_fields (body.Value e))) (bounds spans e)
+judged_body spans b = judged_size (mag_of spans (body_fields b))

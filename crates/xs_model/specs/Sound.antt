@@ -7,10 +7,11 @@ use Rattle.xs_model.specs.declared.decl.Decl.{Decl}
 use Rattle.xs_model.specs.declared.decl.Decl.TheVariants.{One, Array}
 use Rattle.xs_model.specs.Identifier.{IsIdentifier}
 use Rattle.xs_model.specs.Names.{places_of, defined}
+use Rattle.xf_num.specs.Limits as limits
 
 -- the greatest magnitude of an integer
 abbrev pub magnitudes : ℕ
-magnitudes = 2 ^ 126 - 1
+magnitudes = limits.greatest_magnitude
 
 abbrev pub IsSmall : ℤ → Type 0
 IsSmall z = nat_abs z ≤ magnitudes
@@ -57,7 +58,7 @@ values_of (b ∷ []) = 0
 values_of (b ∷ c ∷ bs) = size_of (b ∷ c ∷ bs)
 
 abbrev pub most_cells : ℕ
-most_cells = 1048576
+most_cells = limits.most_variables
 
 abbrev pub most_items : ℕ
-most_items = 4194304
+most_items = limits.most_items

@@ -19,7 +19,7 @@ fn bits(alloc: Global) -> Result<Domain, NoMemory>
     ensures { IfOk result (λ domain. domain ≡ record { lo = pos 0; hi = pos 1 } ∷ []) }
 {
     match Span::new(0, 1) {
-        Some(span) => Domain::of(span, alloc),
+        Some(span) => Domain::of(alloc, span),
         None => Err(NoMemory),
     }
 }
@@ -169,13 +169,5 @@ fn spans_run_from_the_least_to_the_greatest_value(rt: HostRuntime) -> Result<(),
     for (span, (lo, hi)) in spans.as_slice().iter().zip(wanted.iter()) {
         assert_eq!(rt; (span.lo(), span.hi()), (*lo, *hi));
     }
-    Ok(())
-}
-
-#[test]
-fn nodes_and_list_members_are_items(rt: HostRuntime) -> Result<(), Fail> {
-    let mut list = Row::new(rt.alloc());
-    list.extend(&[0, 0, 1])?;
-    assert_eq!(rt; count_items(&Constraint::AllDifferent { list }), 3);
     Ok(())
 }

@@ -93,8 +93,10 @@ fn defined_place(cells: &[Option<Domain>], nth: usize) -> usize
     cells.len()
 }
 
-// Appends a bracket for each index of the cell at this place in row-major order, of `count` cells.
-fn push_brackets(
+/// Appends a bracket for each index of the cell at this place in row-major order.
+///
+/// Asks that the sizes are at least 1, that `count` is their product, and that the place is below it.
+pub fn push_brackets(
     word: &mut Vec<u8>,
     sizes: &[i128],
     count: usize,

@@ -13,12 +13,11 @@ pub mod SmallLemmas
 pub mod FormedLemmas
 pub mod CountLemmas
 pub mod NodeLemmas
-pub mod Decimals
 pub mod Marked
-pub mod Places
 pub mod Direct
 pub mod Reached
 pub mod Declared
 pub mod ReadBack
 pub mod WrittenAgain
 pub mod AskedLemmas
+pub mod CountedLemmas

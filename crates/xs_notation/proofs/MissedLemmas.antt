@@ -1,23 +1,25 @@
 -- What parts miss first, and what the whole misses first.
 use Rattle.std.proofs.Common.{◌≡◌, ℕ, ℤ, List, [], ◌∷◌, ◌++◌, refl, sym, ap, ◌∙◌, Bool, true, false, not, ◌&&◌, cond, if◌then◌else◌, Option, Some, None, Ok, Err}
 use Rattle.std.specs.Result.{result_err}
-use Rattle.xs_fields.specs.Cells.{name_meets, reached}
+use Rattle.xs_fields.specs.Cells.{name_meets, reached, variable_meets, variables_of}
 use Rattle.xs_fields.specs.Conditions.{all_meet, earlier_of, first_missed, judged, meets}
 use Rattle.xs_fields.specs.Sizes.{brackets_of, size_of, size_meets}
-use Rattle.xs_fields.specs.Variables.{bracket_of, bracket_meets, is_small_bracket, word_of}
+use Rattle.xs_fields.specs.Variables.{bracket_of, bracket_meets, is_small_bracket, word_meets, word_of}
 use Rattle.xs_fields.specs.declared.condition.Condition.{Condition}
 use Rattle.xs_fields.specs.declared.condition.Condition.TheVariants.{Known, Nesting, Spelling, Magnitude, Naming, Counting, Fitting}
 use Rattle.xs_fields.specs.declared.variable.Word.{Word}
+use Rattle.xs_fields.proofs.FirstLemmas.{all_met, met_at}
+use Rattle.xs_fields.proofs.IntegerLemmas.{and_left, and_right}
 use Rattle.xs_fields.proofs.NamingLemmas.{reached_missed}
 use Rattle.xs_fields.proofs.OrderLemmas.{first_missed-words, earlier_assoc}
 use Rattle.xs_model.specs.Outline.{Outline}
-use Rattle.xs_model.specs.declared.expr.Expr.{Expr}
+use Rattle.xs_model.specs.declared.expr.Expr.{Expr, Var}
 use Rattle.xs_expr.specs.Tokens.{tokens_of}
 use Rattle.xs_fields.specs.Integers.{integer_of, is_small}
 use Rattle.xs_notation.specs.Nesting.{is_deeper, nesting_meets}
 use Rattle.xs_notation.specs.Parse.{parse}
 use Rattle.xs_notation.specs.Reading.{expr_meets, raw_meets, words_in}
-use Rattle.xs_notation.specs.Terms.{direct_meets, settled, term_meets, term_meets_by}
+use Rattle.xs_notation.specs.Terms.{direct_meets, settled, term_meets, term_meets_by, variable_in}
 use Rattle.xs_notation.specs.declared.raw.Raw.{Raw}
 
 pub settled-err : (o : Option Condition) (e : Expr) → result_err (settled o e) ≡ o
@@ -141,3 +143,10 @@ nesting-first false raw k h e = cc
 
 pub deep-first : (os : List Outline) (text : List ℕ) (k : Condition) → first_missed (nesting_meets text) ≡ Some k → Some k ≡ first_missed (expr_meets os text)
 deep-first os text k h = nesting-first (is_deeper 0 text) (raw_meets os (parse (tokens_of text))) k (raw-known os (parse (tokens_of text))) h
+
+-- a direct word that is looked up
+pub direct-settled : (os : List Outline) (w : List ℕ) (v : ℕ) → first_missed (variable_meets os w) ≡ None → first_missed (all_meet size_meets (brackets_of w)) ≡ None → variables_of os w ≡ v ∷ [] → Ok (Var v) ≡ settled (first_missed (λ k. direct_meets w k && name_meets os w k)) (variable_in (variables_of os w))
+direct-settled os w v word sizes is =
+    let met : (k : Condition) → (direct_meets w k && name_meets os w k) ≡ true =
+    λ k. both _ _ (both _ _ (and_left (word_meets w k) (name_meets os w k) (met_at (variable_meets os w) word k)) (met_at (all_meet size_meets (brackets_of w)) sizes k)) (and_right (word_meets w k) (name_meets os w k) (met_at (variable_meets os w) word k)) in
+    sym (ap (λ o. settled o (variable_in (variables_of os w))) (all_met (λ k. direct_meets w k && name_meets os w k) met) ∙ ap (λ vs. Ok (variable_in vs)) is)

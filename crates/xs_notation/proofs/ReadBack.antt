@@ -30,10 +30,11 @@ use Rattle.xs_notation.specs.Notation.{flat, behind, listed, are_plain}
 use Rattle.xs_notation.specs.Reading.{expr_of, words_in, words_meet}
 use Rattle.xs_notation.specs.Terms.{settled, term_by, term_in, term_meets, term_meets_by, term_of}
 use Rattle.xs_notation.specs.declared.raw.Raw.{Raw, Word, Call}
-use Rattle.xs_notation.proofs.Decimals.{decimal-spells, integer-is, integer-bytes, integer-some}
+use Rattle.xs_fields.proofs.Decimals.{decimal-spells, integer-is, integer-bytes, integer-some}
 use Rattle.xs_notation.proofs.Flats.{flat-Word, flat-Call, plain-Word, plain-Call}
 use Rattle.xs_notation.proofs.Marked.{IsOneWord, Stops, high-byte, name-word, plain-word, word-token}
-use Rattle.xs_notation.proofs.Reached.{IsDirect, none-missed}
+use Rattle.xs_fields.proofs.ReachedLemmas.{none-missed}
+use Rattle.xs_notation.proofs.Reached.{IsDirect}
 use Rattle.xs_notation.proofs.ShapeLemmas.{expr-Call, expr-Word, form-Call, form-Word, out-Int, out-Node, out-Var}
 use Rattle.xs_notation.proofs.WordsLemmas.{words-Word, words-Call}
 

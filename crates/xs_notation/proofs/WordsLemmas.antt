@@ -1,5 +1,5 @@
 -- The brackets of a word, and the words of an expression.
-use Rattle.std.proofs.Common.{◌≡◌, ℕ, suc, ◌+◌, ◌<◌, List, [], ◌∷◌, ◌++◌, map, length, drop, get_or, drop-cons, refl, sym, ap, ◌∙◌, arith, rules, Bool, true, false, not, ◌&&◌, if◌then◌else◌, Some, None, position}
+use Rattle.std.proofs.Common.{◌≡◌, ℕ, suc, ◌+◌, ◌<◌, List, [], ◌∷◌, ◌++◌, map, length, drop, get_or, drop-cons, append_assoc, refl, sym, ap, ◌∙◌, arith, rules, Bool, true, false, not, ◌&&◌, if◌then◌else◌, Some, None, position}
 use Rattle.std.specs.List.{flat_map, position_or_len}
 use Rattle.std.proofs.lemmas.List.Sums.{prefix_len_stops}
 use borrow.Author.Tests.{not-false}
@@ -75,3 +75,14 @@ words-next i rs r h is =
     ap (flat_map words_in) (drop-cons rs i r h)
     ∙ ap (λ q. words_in q ++ flat_map words_in (drop (suc i) rs)) (sym is)
     ∙ ap (λ n. words_in r ++ flat_map words_in (drop n rs)) (sym k)
+
+-- one item more of a list that is mapped
+pub map-more : {A B : Type 0} (f : A → B) (xs : List A) (done new all : List B) (i : ℕ) (x : A) (y : B) → i < length xs → x ≡ get_or xs i x → y ≡ f x → new ≡ done ++ y ∷ [] → done ++ map f (drop i xs) ≡ all → new ++ map f (drop (i + 1) xs) ≡ all
+map-more f xs done new all i x y h is value made so_far =
+    let s : i + 1 ≡ suc i = omega arith in
+    ap (λ ys. ys ++ map f (drop (i + 1) xs)) made
+    ∙ append_assoc done (y ∷ []) (map f (drop (i + 1) xs))
+    ∙ ap (λ z. done ++ (z ∷ map f (drop (i + 1) xs))) (value ∙ ap f is)
+    ∙ ap (λ n. done ++ (f (get_or xs i x) ∷ map f (drop n xs))) s
+    ∙ ap (λ ys. done ++ map f ys) (sym (drop-cons xs i x h))
+    ∙ so_far

@@ -24,7 +24,8 @@ use Rattle.xs_notation.specs.declared.raw.Raw.{Raw}
 use Rattle.xs_notation.proofs.Again.{parse-again}
 use Rattle.xs_notation.proofs.Declared.{denotes, distinct-all, few-all, sound-all}
 use Rattle.xs_notation.proofs.ReadBack.{back}
-use Rattle.xs_notation.proofs.Reached.{IsDirect, direct-is, none-missed}
+use Rattle.xs_fields.proofs.ReachedLemmas.{none-missed}
+use Rattle.xs_notation.proofs.Reached.{IsDirect, direct-is}
 
 both : (a b : Bool) → a ≡ true → b ≡ true → (a && b) ≡ true
 both a b g h = ap (λ (t : Bool). t && b) g ∙ h

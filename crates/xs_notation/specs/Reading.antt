@@ -3,8 +3,10 @@ use Rattle.std.specs.Prelude.{ℕ, Bool, true, false, ◌&&◌, pos, List, [], �
 use Rattle.std.specs.List.{flat_map}
 use Rattle.xs_expr.specs.Tokens.{tokens_of}
 use Rattle.xs_fields.specs.Conditions.{all_meet}
+use Rattle.xs_fields.specs.Lists.{count_meets}
 use Rattle.xs_fields.specs.declared.condition.Condition.{Condition}
 use Rattle.xs_fields.specs.declared.condition.Condition.TheVariants.{Spelling}
+use Rattle.xs_model.specs.Formed.{nodes}
 use Rattle.xs_model.specs.Outline.{Outline}
 use Rattle.xs_model.specs.declared.expr.Expr.{Expr, Int, Node}
 use Rattle.xs_notation.specs.Forms.{form_meets}
@@ -54,3 +56,7 @@ expr_in os (Some r) = expr_of os r
 
 abbrev pub expr_at : List Outline → List ℕ → Expr
 expr_at os text = expr_in os (parse (tokens_of text))
+
+-- what the text of an expression meets, where so many nodes may still come
+abbrev pub counted_expr_meets : List Outline → List ℕ → ℕ → Condition → Bool
+counted_expr_meets os text left k = expr_meets os text k && count_meets (nodes (expr_at os text)) left k

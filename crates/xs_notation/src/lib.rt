@@ -4,9 +4,9 @@
 //! expression has and `specs/Parse.antt` how tokens are read; `one_notation` says that nothing else is read and
 //! nothing in another way. `specs/Terms.antt` says what a word has to meet and which operand it is,
 //! `specs/Forms.antt` which operands an operator takes, `specs/Nesting.antt` how deep a text may be, and
-//! `specs/Reading.antt` what a text has to meet in all and which expression it denotes. `judge_notation` answers exactly
-//! the first condition that a text misses, and `read_expr` exactly the expression of a text that misses none, which is
-//! one that an instance may hold (`IsFormedExpr` of `xs_model`). `written_again` says that the text that `write_expr` of
+//! `specs/Reading.antt` what a text has to meet in all and which expression it denotes. `scan_expr` answers
+//! exactly the first condition that a text misses, and where it misses none exactly its expression, which is one that an
+//! instance may hold (`IsFormedExpr` of `xs_model`). `written_again` says that the text that `write_expr` of
 //! `xs_expr` writes is read again as the same expression.
 //!
 //! `specs/Count.antt` says how many nodes an expression has: `count_nodes` counts them in the text, and `one_count` says
@@ -34,4 +34,4 @@ pub use count::{count_nodes, one_count};
 pub use law::{one_notation, written_again};
 pub use nesting::is_deeper;
 pub use raw::Raw;
-pub use text::{judge_notation, read_expr};
+pub use text::{read_expr, scan_expr};

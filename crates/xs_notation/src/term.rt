@@ -1,13 +1,14 @@
 ghost use Rattle.std.specs.Prelude.{◌≡◌, ◌&&◌, IfOk};
+ghost use Rattle.std.specs.Result.{result_err};
 ghost use Rattle.xs_fields.specs.Cells.{name_meets, reached, variables_of};
 ghost use Rattle.xs_fields.specs.Conditions.{first_missed};
 ghost use Rattle.xs_fields.specs.Variables.{word_of};
-ghost use Rattle.xs_notation.specs.Terms.{direct_meets, settled, term_at, term_meets, term_of, variable_in};
+ghost use Rattle.xs_notation.specs.Terms.{direct_meets, settled, term_at, term_in, term_meets, term_of, variable_in};
 
 use crate::word::judge_direct;
 use std::alloc::Global;
 use xf_num::NoMemory;
-use xs_fields::{Condition, Word, reach, read_integer, read_word};
+use xs_fields::{Condition, Reading, Word, direct_variable, reach, read_integer, read_word};
 use xs_model::{Expr, Names};
 
 /// The first of some variables.
@@ -46,6 +47,9 @@ fn named(alloc: Global, names: &Names, word: &[u8]) -> Result<Result<Expr, Condi
 fn variable(alloc: Global, names: &Names, word: &[u8]) -> Result<Result<Expr, Condition>, NoMemory>
     ensures { IfOk result (λ r. r ≡ settled (first_missed (λ k. direct_meets word.now k && name_meets names.now word.now k)) (variable_in (variables_of names.now word.now))) }
 {
+    if let Some(variable) = direct_variable(names, word) {
+        return Ok(Ok(Expr::Var(variable)));
+    }
     match judge_direct(word) {
         Some(missed) => Ok(Err(missed)),
         None => named(alloc, names, word),
@@ -63,21 +67,28 @@ fn read_term(alloc: Global, names: &Names, word: &[u8]) -> Result<Result<Expr, C
     }
 }
 
-/// The first condition that a word misses.
-pub fn judge_term(alloc: Global, names: &Names, word: &[u8]) -> Result<Option<Condition>, NoMemory>
-    ensures { IfOk result (λ missed. missed ≡ first_missed (term_meets names.now word.now)) }
+/// The operand that a word is, 0 where it misses a condition, and the first condition that it misses.
+pub fn scan_term(alloc: Global, names: &Names, word: &[u8]) -> Result<Reading<Expr>, NoMemory>
+    ensures missed { IfOk result (λ r. r.missed ≡ first_missed (term_meets names.now word.now)) }
+    ensures value { IfOk result (λ r. r.value ≡ term_of names.now word.now) }
 {
     let term = read_term(alloc, names, word)?;
-    Ok(term.err())
+    Ok(parted(term))
 }
 
-/// The operand that a word is; 0 where it misses a condition.
-pub fn term(alloc: Global, names: &Names, word: &[u8]) -> Result<Expr, NoMemory>
-    ensures { IfOk result (λ e. e ≡ term_of names.now word.now) }
+/// An operand, or 0 and the condition in its place.
+fn parted(term: Result<Expr, Condition>) -> Reading<Expr>
+    ensures missed { result.missed ≡ result_err term }
+    ensures value { result.value ≡ term_in term }
 {
-    let term = read_term(alloc, names, word)?;
     match term {
-        Ok(e) => Ok(e),
-        Err(_) => Ok(Expr::Int(0)),
+        Ok(value) => Reading {
+            value,
+            missed: None,
+        },
+        Err(condition) => Reading {
+            value: Expr::Int(0),
+            missed: Some(condition),
+        },
     }
 }

@@ -2,7 +2,7 @@ ghost use Rattle.std.specs.Prelude.{◌≡◌, ◌∷◌, [], pos, codes, true, 
 ghost use Rattle.xs_model.specs.Outline.{outline_of};
 ghost use Rattle.xs_model.specs.declared.decl.Decl.{Decl};
 
-use crate::{count_nodes, judge_notation, read_expr};
+use crate::{count_nodes, read_expr, scan_expr};
 use std::alloc::Global;
 use std::test::Fail;
 use xf_num::{Domain, NoMemory, Row, Span, Text};
@@ -22,7 +22,7 @@ fn bits(alloc: Global) -> Result<Domain, NoMemory>
     ensures { IfOk result (λ domain. domain ≡ record { lo = pos 0; hi = pos 1 } ∷ []) }
 {
     match Span::new(0, 1) {
-        Some(span) => Domain::of(span, alloc),
+        Some(span) => Domain::of(alloc, span),
         None => Err(NoMemory),
     }
 }
@@ -135,8 +135,8 @@ fn missed(alloc: Global, text: &[u8]) -> Result<Option<Condition>, Fail> {
     let Ok(names) = names(alloc) else {
         return Ok(None);
     };
-    let missed = judge_notation(alloc, text, &names)?;
-    match (missed, read_expr(alloc, text, &names)) {
+    let reading = scan_expr(alloc, text, &names, 1_000)?;
+    match (reading.missed, read_expr(alloc, text, &names)) {
         (Some(missed), Err(FieldStop::Refused(kind))) if kind == missed.kind() => Ok(Some(missed)),
         _ => Ok(None),
     }
@@ -315,13 +315,13 @@ fn depths(rt: HostRuntime) -> Result<(), Fail> {
     // What follows opens one parenthesis where none is open, and is misspelt.
     deep.extend(b"y)(")?;
     assert_eq!(rt;
-        judge_notation(alloc, deep.as_slice(), &names)?,
+        scan_expr(alloc, deep.as_slice(), &names, 1_000)?.missed,
         Some(Condition::Spelling)
     );
     // Too many are open at once, and the text is misspelt as well.
     let open = [b'('; 201];
     assert_eq!(rt;
-        judge_notation(alloc, &open, &names)?,
+        scan_expr(alloc, &open, &names, 1_000)?.missed,
         Some(Condition::Nesting)
     );
     match read_expr(alloc, &open, &names) {

@@ -1,10 +1,13 @@
-ghost use Rattle.std.specs.Prelude.{◌≡◌, IfOk};
-ghost use Rattle.xs_model.specs.Formed.{IsFormedExpr};
+ghost use Rattle.std.specs.Prelude.{◌≡◌, ◌≤◌, None, Some, IfOk};
+ghost use Rattle.xs_model.specs.Formed.{IsFormedExpr, nodes};
 ghost use Rattle.xs_fields.specs.Conditions.{answer, first_missed, IsOrMemory};
 ghost use Rattle.xs_model.specs.Outline.{variables_in};
-ghost use Rattle.xs_notation.specs.Reading.{expr_at, expr_meets, expr_of, tree_meets};
+ghost use Rattle.xs_notation.specs.Reading.{counted_expr_meets, expr_at, expr_meets, expr_of, raw_meets, tree_meets};
+ghost use Rattle.xs_notation.specs.Parse.{parse};
+ghost use Rattle.xs_expr.specs.Tokens.{tokens_of};
 
-use crate::build::{build, judge_words};
+use crate::build::build;
+use crate::count::count_nodes;
 use crate::form::judge_form;
 use crate::nesting::judge_nesting;
 use crate::raw::Raw;
@@ -12,45 +15,87 @@ use crate::reader::read_raw;
 use std::alloc::Global;
 use xf_num::NoMemory;
 use xf_text::FieldStop;
-use xs_fields::{Condition, earlier};
+use xs_fields::{Condition, Reading, earlier};
 use xs_model::{Expr, Names};
 
-/// The first condition that an expression misses whose words are not read yet.
-fn judge_tree(alloc: Global, raw: &Raw, names: &Names) -> Result<Option<Condition>, NoMemory>
-    ensures { IfOk result (λ missed. missed ≡ first_missed (tree_meets names.now raw.now)) }
+/// The expression whose words are read, and the first condition that it misses.
+fn scan_tree(alloc: Global, raw: &Raw, names: &Names) -> Result<Reading<Expr>, NoMemory>
+    ensures missed { IfOk result (λ r. r.missed ≡ first_missed (tree_meets names.now raw.now)) }
+    ensures value { IfOk result (λ r. r.value ≡ expr_of names.now raw.now) }
 {
-    let words = judge_words(alloc, raw, names)?;
-    Ok(earlier(judge_form(raw), words))
+    let words = build(alloc, raw, names)?;
+    Ok(Reading {
+        value: words.value,
+        missed: earlier(judge_form(raw), words.missed),
+    })
 }
 
-/// What the text of an expression misses first: `Nesting` where more than 200 `(` are open at once, `Spelling` where it
-/// is no integer, no direct variable word and no operator with the operands that it takes, `Magnitude` where an integer
-/// is above 2^126 - 1, and `Naming` where a word denotes no variable.
-pub fn judge_notation(
+/// A reading of no expression, for what is missed.
+fn without(missed: Condition) -> Reading<Expr>
+    ensures { result.missed ≡ Some missed }
+{
+    Reading {
+        value: Expr::Int(0),
+        missed: Some(missed),
+    }
+}
+
+/// The expression of a text whose depth is within the limit, and the first condition that its tokens miss.
+fn scan_tokens(alloc: Global, text: &[u8], names: &Names) -> Result<Reading<Expr>, NoMemory>
+    ensures missed { IfOk result (λ r. r.missed ≡ first_missed (raw_meets names.now (parse (tokens_of text.now)))) }
+    ensures value { IfOk result (λ r. r.missed ≡ None → r.value ≡ expr_at names.now text.now) }
+    ensures formed { IfOk result (λ r. r.missed ≡ None → IsFormedExpr (variables_in names.now) r.value) }
+{
+    let raw = read_raw(alloc, text)?;
+    match raw {
+        Some(raw) => {
+            let reading = scan_tree(alloc, &raw, names)?;
+            Ok(reading)
+        }
+        None => Ok(without(Condition::Spelling)),
+    }
+}
+
+/// The expression of a text, and the first condition that the text misses but the count of its nodes.
+fn scan_text(alloc: Global, text: &[u8], names: &Names) -> Result<Reading<Expr>, NoMemory>
+    ensures missed { IfOk result (λ r. r.missed ≡ first_missed (expr_meets names.now text.now)) }
+    ensures value { IfOk result (λ r. r.missed ≡ None → r.value ≡ expr_at names.now text.now) }
+    ensures formed { IfOk result (λ r. r.missed ≡ None → IsFormedExpr (variables_in names.now) r.value) }
+{
+    match judge_nesting(text) {
+        Some(missed) => Ok(without(missed)),
+        None => {
+            let reading = scan_tokens(alloc, text, names)?;
+            Ok(reading)
+        }
+    }
+}
+
+/// The expression that a text denotes, and the first condition that the text misses where at most `left` nodes are
+/// allowed: `Nesting` where more than 200 `(` are open at once, `Spelling` where it is no integer, no direct variable
+/// word and no operator with the operands that it takes, `Magnitude` where an integer is above 2^126 - 1, `Naming` where
+/// a word denotes no variable, and `Counting` where there are more nodes.
+///
+/// Where none is missed, the expression is well formed and no set, its variables are declared, its integers are at most
+/// 2^126 - 1, and it has at most `left` nodes.
+pub fn scan_expr(
     alloc: Global,
     text: &[u8],
     names: &Names,
-) -> Result<Option<Condition>, NoMemory>
-    ensures { IfOk result (λ missed. missed ≡ first_missed (expr_meets names.now text.now)) }
+    left: u64,
+) -> Result<Reading<Expr>, NoMemory>
+    ensures missed { IfOk result (λ r. r.missed ≡ first_missed (counted_expr_meets names.now text.now left)) }
+    ensures value { IfOk result (λ r. r.missed ≡ None → r.value ≡ expr_at names.now text.now) }
+    ensures formed { IfOk result (λ r. r.missed ≡ None → IsFormedExpr (variables_in names.now) r.value) }
+    ensures few { IfOk result (λ r. r.missed ≡ None → nodes r.value ≤ left) }
 {
-    if let Some(missed) = judge_nesting(text) {
-        return Ok(Some(missed));
-    }
-    let raw = read_raw(alloc, text)?;
-    match raw {
-        Some(raw) => judge_tree(alloc, &raw, names),
-        None => Ok(Some(Condition::Spelling)),
-    }
-}
-
-fn read_tree(alloc: Global, raw: &Raw, names: &Names) -> Result<Expr, FieldStop>
-    ensures value { IsOrMemory result (answer (tree_meets names.now raw.now) (expr_of names.now raw.now)) }
-    ensures formed { IfOk result (IsFormedExpr (variables_in names.now)) }
-{
-    let missed = judge_tree(alloc, raw, names)?;
-    match missed {
-        Some(missed) => Err(FieldStop::Refused(missed.kind())),
-        None => Ok(build(alloc, raw, names)?),
+    let reading = scan_text(alloc, text, names)?;
+    match reading.missed {
+        Some(_) => Ok(reading),
+        None => match count_nodes(text, left) {
+            Some(_) => Ok(reading),
+            None => Ok(without(Condition::Counting)),
+        },
     }
 }
 
@@ -65,12 +110,9 @@ pub fn read_expr(alloc: Global, text: &[u8], names: &Names) -> Result<Expr, Fiel
     ensures value { IsOrMemory result (answer (expr_meets names.now text.now) (expr_at names.now text.now)) }
     ensures formed { IfOk result (IsFormedExpr (variables_in names.now)) }
 {
-    if let Some(missed) = judge_nesting(text) {
-        return Err(FieldStop::Refused(missed.kind()));
-    }
-    let raw = read_raw(alloc, text)?;
-    match raw {
-        Some(raw) => read_tree(alloc, &raw, names),
-        None => Err(FieldStop::Refused(Condition::Spelling.kind())),
+    let reading = scan_text(alloc, text, names)?;
+    match reading.missed {
+        Some(missed) => Err(FieldStop::Refused(missed.kind())),
+        None => Ok(reading.value),
     }
 }

@@ -1,5 +1,5 @@
 -- The variables that a text denotes are declared.
-use Rattle.std.proofs.Common.{◌≡◌, ℕ, zero, suc, ◌+◌, ◌<◌, ◌≤◌, Bool, true, false, if◌then◌else◌, List, [], ◌∷◌, ◌++◌, Option, None, Some, IfSome, Result, Err, get_or, arith}
+use Rattle.std.proofs.Common.{ℕ, zero, suc, ◌+◌, ◌<◌, ◌≤◌, Bool, true, false, if◌then◌else◌, List, [], ◌∷◌, ◌++◌, Option, None, Some, IfSome, Result, Err, get_or, arith}
 use Rattle.std.specs.List.{AllByRecursion, filter_map, cons_option, flat_map}
 use Rattle.xs_fields.specs.Cells.{are_inside, covered_places, declared_at, reached_at, unless_none, variables_at, variables_in as variables_told, variables_of, vars_of}
 use Rattle.xs_fields.specs.Variables.{is_direct, word_of}

@@ -1,3 +1,2 @@
-pub mod BelowLemmas
-pub mod MissedLemmas
-pub mod ExpressionLemmas
+mod BelowLemmas
+mod ReadLemmas

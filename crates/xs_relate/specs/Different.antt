@@ -1,23 +1,21 @@
--- The unit of an `allDifferent` over one list (XCSP3-core, "Constraint allDifferent"): its conditions, and its list.
-use Rattle.std.specs.Prelude.{ℕ, Bool, ◌||◌, not, List, codes}
-use Rattle.std.specs.List.{list_all}
-use Rattle.xf_markup.specs.declared.tree.Node.{Node}
+-- An `allDifferent` over one list (XCSP3-core, "Constraint allDifferent"): its conditions, and its list.
+use Rattle.std.specs.Prelude.{[], ℕ, Bool, ◌&&◌, List, codes}
 use Rattle.xs_fields.specs.Cells.{vars_meet, vars_of}
-use Rattle.xs_fields.specs.Words.{words_of}
 use Rattle.xs_fields.specs.declared.condition.Condition.{Condition}
 use Rattle.xs_model.specs.Outline.{Outline}
+use Rattle.xs_model.specs.declared.concrete.Concrete.{Concrete}
 use Rattle.xs_model.specs.declared.instance.Constraint.{Constraint}
 use Rattle.xs_model.specs.declared.instance.Constraint.TheVariants.{AllDifferent}
-use Rattle.xs_relate.specs.Unit.{form_meets, form_text, has_one_text, is_shallow}
+use Rattle.xs_parts.specs.Nesting.{are_words_shallow}
+use Rattle.xs_parts.specs.Parts.{one_text, text_of_one}
+use Rattle.xs_relate.specs.Unit.{form_text, unit_meets}
 
--- where it has one list, each member of it is shallow
-abbrev pub is_list_shallow : Node → Bool
-is_list_shallow n = not (has_one_text n) || list_all is_shallow (words_of (form_text n))
-
--- what an `allDifferent` meets, where so many items may still come
-abbrev pub different_meets : List Outline → ℕ → Node → Condition → Bool
-different_meets os left n = form_meets (codes "list") (is_list_shallow n) (vars_meet os (form_text n) left) n
+-- what an `allDifferent` meets, where so many items may still come. How deep its members are nested is asked of its one list
+-- alone, whatever text stands beside it
+abbrev pub different_meets : List Outline → ℕ → Concrete → Condition → Bool
+different_meets os left c k =
+    unit_meets (are_words_shallow (text_of_one (codes "list") c.parts)) (one_text (codes "list") c.parts) k && vars_meet os (form_text (codes "list") c) left k
 
 -- the constraint: the values of the list differ pairwise
-abbrev pub different_of : List Outline → Node → Constraint
-different_of os n = AllDifferent (vars_of os (form_text n))
+abbrev pub different_of : List Outline → Concrete → Constraint
+different_of os c = AllDifferent (vars_of os (form_text (codes "list") c)) []

@@ -1,3 +1,4 @@
 pub mod Different
+pub mod Forms
 pub mod Intension
 pub mod Unit

@@ -2,13 +2,14 @@ ghost use Rattle.std.specs.Prelude.{◌≡◌, ◌∷◌, [], pos, codes, true, 
 ghost use Rattle.xs_model.specs.Outline.{outline_of};
 ghost use Rattle.xs_model.specs.declared.decl.Decl.{Decl};
 
-use crate::{next_child, read_different, read_intension};
+use crate::{is_form, read_form};
 use std::alloc::Global;
 use std::test::Fail;
 use xf_markup::read_tree;
 use xf_num::{Domain, NoMemory, Row, Span, Text};
 use xf_text::{FieldStop, Kind};
 use xs_model::{Cells, Constraint, Decl, Expr, NameStop, Names, Op};
+use xs_template::concrete_of;
 
 fn text(alloc: Global, bytes: &[u8]) -> Result<Text, NoMemory>
     ensures { IfOk result (λ text. text ≡ bytes.now) }
@@ -22,7 +23,7 @@ fn bits(alloc: Global) -> Result<Domain, NoMemory>
     ensures { IfOk result (λ domain. domain ≡ record { lo = pos 0; hi = pos 1 } ∷ []) }
 {
     match Span::new(0, 1) {
-        Some(span) => Domain::of(span, alloc),
+        Some(span) => Domain::of(alloc, span),
         None => Err(NoMemory),
     }
 }
@@ -71,13 +72,17 @@ fn names(alloc: Global) -> Result<Names, NameStop>
     Ok(names)
 }
 
-// What the one element of a text is read as, where so many items may still come.
+// What the constraint of a text is read as, where so many items may still come.
 fn read(alloc: Global, text: &[u8], names: &Names, left: u64) -> Result<Constraint, FieldStop> {
     match read_tree(alloc, text) {
-        Ok(node) if node.name.as_slice() == b"intension".as_slice() => {
-            read_intension(alloc, &node, names, left)
+        Ok(node) => {
+            let c = concrete_of(alloc, &node)?;
+            if is_form(c.name.as_slice()) {
+                read_form(alloc, &c, names, left)
+            } else {
+                Err(FieldStop::Refused(Kind::Unknown))
+            }
         }
-        Ok(node) => read_different(alloc, &node, names, left),
         Err(_) => Err(FieldStop::Refused(Kind::Syntax)),
     }
 }
@@ -105,7 +110,7 @@ fn reads_lists(rt: HostRuntime) -> Result<(), Fail> {
     ];
     for (text, want) in rows {
         match read(rt.alloc(), text, &names, 3) {
-            Ok(Constraint::AllDifferent { list }) => assert!(rt; list.as_slice() == want),
+            Ok(Constraint::AllDifferent { list, .. }) => assert!(rt; list.as_slice() == want),
             _ => panic!(rt; "not read"),
         }
     }
@@ -138,22 +143,24 @@ fn reads_expressions(rt: HostRuntime) -> Result<(), Fail> {
     Ok(())
 }
 
+// An element of this name with an open and a close tag, and so many `(` in it before and behind the other bytes.
+fn nested(alloc: Global, open: &[u8], count: usize, close: &[u8]) -> Result<Text, NoMemory> {
+    let mut text = Row::new(alloc);
+    text.extend(open)?;
+    for _ in 0..count {
+        text.extend(b"(")?;
+    }
+    text.extend(close)?;
+    Ok(text)
+}
+
 #[test]
-fn refuses_expressions_by_the_first_condition(rt: HostRuntime) -> Result<(), Fail> {
+fn refuses_by_the_first_condition(rt: HostRuntime) -> Result<(), Fail> {
     let Ok(names) = names(rt.alloc()) else {
         panic!(rt; "want of memory");
     };
-    let rows: [(&[u8], Kind); 14] = [
-        (b"<intension rank=\"any\"> v </intension>", Kind::Unknown),
-        (b"<intension><list> v </list></intension>", Kind::Unknown),
-        (
-            b"<intension><function> v <function/></function></intension>",
-            Kind::Unknown,
-        ),
-        (
-            b"<intension><function id=\"f\"> v </function></intension>",
-            Kind::Unknown,
-        ),
+    let rows: [(&[u8], Kind); 24] = [
+        (b"<stretch/>", Kind::Unknown),
         (b"<intension> </intension>", Kind::Shape),
         (
             b"<intension><function> v </function><function> v </function></intension>",
@@ -175,102 +182,6 @@ fn refuses_expressions_by_the_first_condition(rt: HostRuntime) -> Result<(), Fai
         (
             b"<intension> <function> ne(v,neg(v)) </function> </intension>",
             Kind::Many,
-        ),
-    ];
-    for (text, want) in rows {
-        match read(rt.alloc(), text, &names, 3) {
-            Err(FieldStop::Refused(kind)) => assert_eq!(rt; kind, want),
-            _ => panic!(rt; "not refused"),
-        }
-    }
-    Ok(())
-}
-
-// An element of this name with an open and a close tag, and so many `(` in it before and behind the other bytes.
-fn nested(alloc: Global, open: &[u8], count: usize, close: &[u8]) -> Result<Text, NoMemory> {
-    let mut text = Row::new(alloc);
-    text.extend(open)?;
-    for _ in 0..count {
-        text.extend(b"(")?;
-    }
-    text.extend(close)?;
-    Ok(text)
-}
-
-#[test]
-fn asks_how_deep_texts_are_nested(rt: HostRuntime) -> Result<(), Fail> {
-    let Ok(names) = names(rt.alloc()) else {
-        panic!(rt; "want of memory");
-    };
-    let rows: [(&[u8], usize, &[u8], Kind); 8] = [
-        (b"<intension>", 200, b"</intension>", Kind::Shape),
-        (b"<intension>", 201, b"</intension>", Kind::Depth),
-        (
-            b"<intension><function>",
-            201,
-            b"</function></intension>",
-            Kind::Depth,
-        ),
-        (
-            b"<intension> v <function>",
-            201,
-            b"</function></intension>",
-            Kind::Depth,
-        ),
-        (
-            b"<intension rank=\"any\">",
-            201,
-            b"</intension>",
-            Kind::Unknown,
-        ),
-        (b"<allDifferent> v ", 200, b" </allDifferent>", Kind::Shape),
-        (b"<allDifferent> v ", 201, b" </allDifferent>", Kind::Depth),
-        (
-            b"<allDifferent><list/><list>",
-            201,
-            b"</list></allDifferent>",
-            Kind::Shape,
-        ),
-    ];
-    for (open, count, close, want) in rows {
-        let text = nested(rt.alloc(), open, count, close)?;
-        match read(rt.alloc(), text.as_slice(), &names, 9) {
-            Err(FieldStop::Refused(kind)) => assert_eq!(rt; kind, want),
-            _ => panic!(rt; "not refused"),
-        }
-    }
-    Ok(())
-}
-
-#[test]
-fn refuses_by_the_first_condition(rt: HostRuntime) -> Result<(), Fail> {
-    let Ok(names) = names(rt.alloc()) else {
-        panic!(rt; "want of memory");
-    };
-    let rows: [(&[u8], Kind); 19] = [
-        (
-            b"<allDifferent rank=\"any\"> v </allDifferent>",
-            Kind::Unknown,
-        ),
-        (
-            b"<allDifferent><except> 0 </except> v </allDifferent>",
-            Kind::Unknown,
-        ),
-        (
-            b"<allDifferent><list id=\"l\"> v </list></allDifferent>",
-            Kind::Unknown,
-        ),
-        (
-            b"<allDifferent><list> v <list/></list></allDifferent>",
-            Kind::Unknown,
-        ),
-        (
-            b"<allDifferent><list/> v <matrix/></allDifferent>",
-            Kind::Unknown,
-        ),
-        (
-            b"<allDifferent rank=\"any\"> 1v </allDifferent>",
-            Kind::Unknown,
         ),
         (
             b"<allDifferent><list> v </list><list> v </list></allDifferent>",
@@ -307,24 +218,42 @@ fn refuses_by_the_first_condition(rt: HostRuntime) -> Result<(), Fail> {
             _ => panic!(rt; "not refused"),
         }
     }
-    Ok(())
-}
-
-#[test]
-fn parts_children(rt: HostRuntime) -> Result<(), Fail> {
-    match read_tree(rt.alloc(), b"<a> 0 <b/> 1 <c/></a>") {
-        Ok(node) => {
-            let Some((first, rest)) = next_child(node.pieces.as_slice()) else {
-                panic!(rt; "no child");
-            };
-            assert!(rt; first.name.as_slice() == b"b".as_slice());
-            let Some((second, rest)) = next_child(rest) else {
-                panic!(rt; "one child");
-            };
-            assert!(rt; second.name.as_slice() == b"c".as_slice());
-            assert!(rt; next_child(rest).is_none());
+    let rows: [(&[u8], usize, &[u8], Kind); 8] = [
+        (b"<intension>", 200, b"</intension>", Kind::Shape),
+        (b"<intension>", 201, b"</intension>", Kind::Depth),
+        (
+            b"<intension><function>",
+            201,
+            b"</function></intension>",
+            Kind::Depth,
+        ),
+        (
+            b"<intension> v <function>",
+            201,
+            b"</function></intension>",
+            Kind::Depth,
+        ),
+        (b"<allDifferent> v ", 200, b" </allDifferent>", Kind::Shape),
+        (b"<allDifferent> v ", 201, b" </allDifferent>", Kind::Depth),
+        (
+            b"<allDifferent><list/><list>",
+            201,
+            b"</list></allDifferent>",
+            Kind::Shape,
+        ),
+        (
+            b"<allDifferent> v <list>",
+            201,
+            b"</list></allDifferent>",
+            Kind::Depth,
+        ),
+    ];
+    for (open, count, close, want) in rows {
+        let text = nested(rt.alloc(), open, count, close)?;
+        match read(rt.alloc(), text.as_slice(), &names, 9) {
+            Err(FieldStop::Refused(kind)) => assert_eq!(rt; kind, want),
+            _ => panic!(rt; "not refused"),
         }
-        Err(_) => panic!(rt; "no markup"),
     }
     Ok(())
 }

@@ -1,6 +1,6 @@
 //! The attributes and the text of an element.
 
-ghost use Rattle.std.specs.Prelude.{◌≡◌, IfOk, map};
+ghost use Rattle.std.specs.Prelude.{◌≡◌, IfOk, IfSome, map};
 ghost use Rattle.std.specs.Option.{option_map};
 ghost use Rattle.xs_var.specs.Elements.{has_only, is_one_of, text_in, value_in};
 
@@ -42,6 +42,17 @@ pub fn is_one_of(names: &[&[u8]], name: &[u8]) -> bool
         }
     }
     false
+}
+
+/// The text of an element that is no more than one piece. None says nothing.
+pub fn one_text(pieces: &[Piece]) -> Option<&[u8]>
+    ensures { IfSome result (λ text. text.now ≡ text_in pieces.now) }
+{
+    match pieces {
+        [] => Some(&[]),
+        [Piece::Words(words)] => Some(words.as_slice()),
+        _ => None,
+    }
 }
 
 /// The text of an element: its pieces of text joined.

@@ -20,11 +20,13 @@ mod var;
 pub use container::{are_children_known, judge_variables};
 pub use counted::Counted;
 pub use domain::domain_of;
-pub use element::{attribute, has_only, is_one_of, text_of};
+pub use element::{attribute, has_only, is_one_of, one_text, text_of};
 pub use like::{like_domain, single_domain};
-pub use unit::{domain_for, judge_var, read_var};
-pub use values::{judge_counting, judge_counts, judge_fitting, text_domain, values_of, var_domain};
+pub use unit::{judge_var, read_var, scan_var};
+pub use values::{
+    judge_counting, judge_counts, judge_fitting, scan_content, scan_domain, text_domain, values_of,
+};
 pub use var::{
     has_no_child, is_integer_type, judge_as, judge_id, judge_known, judge_names, judge_naming,
-    judge_spelling, judge_var_fields,
+    judge_spelling,
 };

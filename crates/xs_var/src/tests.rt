@@ -1,4 +1,4 @@
-use crate::{domain_for, judge_var, judge_variables};
+use crate::{judge_var, judge_variables, scan_var};
 use std::alloc::Global;
 use std::test::Fail;
 use xf_markup::read_tree;
@@ -10,9 +10,9 @@ fn missed(alloc: Global, text: &[u8]) -> Result<Option<Condition>, Fail> {
     match read_tree(alloc, text) {
         Ok(node) => {
             let names = Names::new(alloc);
-            let domain = domain_for(alloc, &node, &[], &names)?;
-            let found = judge_var(alloc, &node, &[], &names, 0, 0, domain.as_ref())?;
-            Ok(found)
+            let read = scan_var(alloc, &node, &[], &names)?;
+            let domain = read.value.as_ref();
+            Ok(judge_var(&node, &[], &names, 0, 0, read.missed, domain))
         }
         Err(_) => Ok(Some(Condition::Nesting)),
     }

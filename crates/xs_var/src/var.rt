@@ -1,18 +1,15 @@
 //! The conditions on a `var`.
 
-ghost use Rattle.std.specs.Prelude.{◌≡◌, Bool, Option, None, Some, List, ℕ, IfOk, OnOk};
+ghost use Rattle.std.specs.Prelude.{◌≡◌};
 ghost use Rattle.std.specs.Option.{option_map};
 ghost use Rattle.xs_fields.specs.Conditions.{first_missed};
-ghost use Rattle.xs_fields.specs.declared.condition.Condition.{Condition};
 ghost use Rattle.xs_model.specs.Outline.{names_in};
-ghost use Rattle.xs_var.specs.Elements.{is_one_of, text_in};
-ghost use Rattle.xs_var.specs.Variable.{as_meets, domain_meets, has_no_child, id_meets, is_blank, is_earlier, is_integer_type, is_new, is_var_known, known_meets, names_meet, naming_meets, spelling_meets, var_fields_meet};
+ghost use Rattle.xs_var.specs.Elements.{is_one_of};
+ghost use Rattle.xs_var.specs.Variable.{as_meets, has_no_child, id_meets, is_earlier, is_integer_type, is_new, is_var_known, known_meets, names_meet, naming_meets, spelling_meets};
 
-use crate::element::{attribute, has_only, text_of};
-use std::alloc::Global;
+use crate::element::{attribute, has_only};
 use xf_markup::{Node, Piece};
-use xf_num::NoMemory;
-use xs_fields::{Condition, earlier, is_blank, judge_identifier, judge_pieces};
+use xs_fields::{Condition, judge_identifier};
 use xs_model::Names;
 
 /// Whether an element holds no child.
@@ -82,16 +79,6 @@ pub fn judge_as(value: Option<&[u8]>) -> Option<Condition>
     }
 }
 
-/// What the text of a domain misses first; beside `as` it is to be blank.
-pub fn judge_domain(like: Option<&[u8]>, text: &[u8]) -> Option<Condition>
-    ensures { result ≡ first_missed (domain_meets (option_map (λ x. x.now) like.entry) text.now) }
-{
-    match like {
-        Some(_) => judge_spelling(is_blank(text)),
-        None => judge_pieces(text),
-    }
-}
-
 /// Whether a name is declared.
 pub fn is_declared(names: &Names, name: &[u8]) -> bool
     ensures { result ≡ is_one_of (names_in names.now) name.now }
@@ -120,25 +107,13 @@ pub fn is_earlier(names: &Names, like: Option<&[u8]>) -> bool
 }
 
 /// Whether the attributes and the children of a `var` are known.
-fn is_var_known(node: &Node) -> bool
+pub fn is_var_known(node: &Node) -> bool
     ensures { result ≡ is_var_known node.now }
 {
     let attrs = node.attrs.as_slice();
     has_only(attrs, &[b"id", b"type", b"as", b"class", b"note"])
         && is_integer_type(attribute(attrs, b"type"))
         && has_no_child(node.pieces.as_slice())
-}
-
-/// What the attributes, the children and the text of a `var` miss first.
-pub fn judge_var_fields(alloc: Global, node: &Node) -> Result<Option<Condition>, NoMemory>
-    ensures { IfOk result (λ missed. missed ≡ first_missed (var_fields_meet node.now)) }
-{
-    let text = text_of(alloc, node)?;
-    let attrs = node.attrs.as_slice();
-    let like = attribute(attrs, b"as");
-    let spelt = earlier(judge_as(like), judge_domain(like, text.as_slice()));
-    let named = earlier(judge_id(attribute(attrs, b"id")), spelt);
-    Ok(earlier(judge_known(is_var_known(node)), named))
 }
 
 /// What the names of a `var` miss first, beside those declared before it.

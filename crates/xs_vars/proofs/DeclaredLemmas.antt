@@ -17,7 +17,7 @@ use Rattle.xs_var.specs.Elements.{is_one_of}
 use Rattle.xs_var.specs.Taken.{IsSoundTaken, with_decl}
 use Rattle.xs_var.specs.VarUnit.{Declared}
 use Rattle.xs_var.specs.declared.counted.Counted.{Counted}
-use Rattle.xs_vars.specs.Declarations.{IsSoundDeclared, declared_of}
+use Rattle.xs_vars.specs.Declarations.{AreSound, IsSoundDeclared, declared_of}
 use Rattle.xs_vars.specs.Kept.{IsKept}
 use Rattle.xs_vars.specs.declared.declarations.Declarations.{Declarations}
 
@@ -104,4 +104,13 @@ pub kept_with : (known : Declarations) (c : Counted) (ds : List Decl) (os : List
 kept_with known c ds os h k e f = record {
   names = f ∙ named known.decls c.decl known.names h.names ∙ ap outlines_of (sym e);
   sound = subst (λ ds. IsSoundDeclared (record { decls = ds; cells = c.cells; values = c.values })) (sym e) (grown (declared_of known) c h.sound k);
+}
+
+-- sound declarations, without what is counted beside them
+pub are_sound : (d : Declarations) → IsKept d → AreSound d.decls
+are_sound d k = record {
+  distinct = k.sound.distinct;
+  decls = k.sound.decls;
+  few_cells = omega (arith, k.sound.cells, k.sound.few_cells);
+  few_values = omega (arith, k.sound.values, k.sound.few_values);
 }

@@ -89,7 +89,7 @@ single_in_small : (o : Option Decl) → IfSome o IsSoundDecl → IfSome (single_
 single_in_small None h = tt
 single_in_small (Some d) h = single_small d h
 
-found : {A : Type 0} (P : A → Type 0) (test : A → Bool) (xs : List A) → AllByRecursion P xs → IfSome (find test xs) P
+pub found : {A : Type 0} (P : A → Type 0) (test : A → Bool) (xs : List A) → AllByRecursion P xs → IfSome (find test xs) P
 found P test [] h = tt
 found P test (x ∷ xs) h = by (test x) (found P test xs h.1)
   where

@@ -1,4 +1,5 @@
 pub mod ChildLemmas
 mod DeclaredLemmas
 mod DomainLemmas
+pub mod OutcomeLemmas
 mod VarLemmas

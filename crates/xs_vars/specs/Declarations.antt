@@ -50,3 +50,10 @@ pub record IsSoundDeclared (s : Declared) : Type 0 where
   pub values : s.values ≡ sum (map values_of (domains s.decls))
   pub few_cells : s.cells ≤ most_cells
   pub few_values : s.values ≤ most_items
+
+-- sound declarations of different names, whose counts are within the limits
+pub record AreSound (ds : List Decl) : Type 0 where
+  pub distinct : AllPairs (λ a b. a ≢ b) (names_of ds)
+  pub decls : AllByRecursion IsSoundDecl ds
+  pub few_cells : sum (map cells_of ds) ≤ most_cells
+  pub few_values : sum (map values_of (domains ds)) ≤ most_items

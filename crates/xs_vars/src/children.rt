@@ -85,3 +85,23 @@ pub fn read_children(alloc: Global, mut pieces: Row<Piece>) -> Result<Declaratio
     }
     Ok(known)
 }
+
+/// The same of children that stay.
+pub fn read_each(alloc: Global, pieces: &[Piece]) -> Result<Declarations, Stop>
+    ensures outcome { IsRead declared_of result (outcome nothing (map child_unit (children_of pieces.now))) }
+    ensures kept { IfOk result (λ d. IsKept d) }
+{
+    let mut known = Declarations {
+        decls: Row::new(alloc),
+        names: Names::new(alloc),
+        cells: 0,
+        values: 0,
+    };
+    for piece in pieces {
+        match piece {
+            Piece::Inner(node) => known = with_child(alloc, node, known)?,
+            Piece::Words(_) => {}
+        }
+    }
+    Ok(known)
+}

@@ -4,9 +4,9 @@ ghost use Rattle.std.specs.Prelude.{◌≡◌, ◌<◌, ◌^◌, IfOk, IfErr, le
 ghost use Rattle.xs_model.specs.Names.{words};
 ghost use Rattle.xs_model.specs.Outline.{outlines_of};
 ghost use Rattle.xs_var.specs.Taken.{IsRead};
-ghost use Rattle.xs_vars.specs.Declarations.{IsSoundDeclared, declared_of, decls_in, variables_outcome};
+ghost use Rattle.xs_vars.specs.Declarations.{AreSound, IsSoundDeclared, declared_of, decls_in, variables_outcome};
 
-use crate::children::{read_children, refused};
+use crate::children::{read_children, read_each, refused};
 use std::alloc::Global;
 use xf_markup::Node;
 use xf_text::Stop;
@@ -41,11 +41,18 @@ pub fn read_declarations(alloc: Global, node: Node) -> Result<Declarations, Stop
 }
 
 /// The declarations of `variables` and their names. Refused exactly where a unit misses a condition, with the fault
-/// of the first.
-pub fn read_variables(alloc: Global, node: Node) -> Result<(Decls, Names), Stop>
-    ensures outcome { IsRead (λ x. x.0) result (decls_in (variables_outcome node)) }
+/// of the first. What is read is sound: names that differ, sound declarations, and counts within the limits.
+pub fn read_variables(alloc: Global, node: &Node) -> Result<(Decls, Names), Stop>
+    ensures outcome { IsRead (λ x. x.0) result (decls_in (variables_outcome node.now)) }
     ensures names { IfOk result (λ x. x.1 ≡ outlines_of x.0) }
+    ensures sound { IfOk result (λ x. AreSound x.0) }
 {
-    let read = read_declarations(alloc, node)?;
-    Ok((read.decls, read.names))
+    let missed = judge_variables(alloc, node)?;
+    match missed {
+        Some(condition) => Err(refused(condition, node.place)),
+        None => {
+            let read = read_each(alloc, node.pieces.as_slice())?;
+            Ok((read.decls, read.names))
+        }
+    }
 }

@@ -126,7 +126,7 @@ fn variables_refused(rt: HostRuntime) -> Result<(), Fail> {
 fn variable(alloc: Global, text: &[u8], word: &[u8]) -> Result<Option<u32>, Stop> {
     match read_tree(alloc, text) {
         Ok(node) => {
-            let (decls, names) = read_variables(alloc, node)?;
+            let (decls, names) = read_variables(alloc, &node)?;
             Ok(if decls.is_empty() {
                 None
             } else {

@@ -13,13 +13,10 @@ ghost use Rattle.xs_vars.specs.Kept.{counted_of, with_counts};
 
 use std::alloc::Global;
 use xf_markup::Node;
-use xf_num::{Domain, NoMemory};
+use xf_num::{Domain, MAX_ITEMS, NoMemory};
 use xs_fields::Condition;
 use xs_model::{Decl, Names};
-use xs_var::{Counted, domain_for, judge_var, read_var, values_of};
-
-/// The greatest number of values of domains that are counted.
-const MOST_VALUES: u64 = 4_194_304;
+use xs_var::{Counted, judge_var, read_var, scan_var, values_of};
 
 // The declaration of a `var` of this domain, and the counts with it; else the condition that wants a domain or a name.
 fn counted(
@@ -35,7 +32,7 @@ fn counted(
 {
     match domain {
         Some(domain) => {
-            let more = values_of(&domain, MOST_VALUES - values).unwrap_or(0);
+            let more = values_of(&domain, MAX_ITEMS - values).unwrap_or(0);
             let decl = read_var(alloc, node, domain)?;
             Ok(with_counts(decl, cells + 1, values + more))
         }
@@ -85,9 +82,17 @@ pub fn read_variable(
     ensures value { IfOk result (λ r. IsTaken (record { decls = decls.now; cells = cells; values = values }) (var_unit node.now) r) }
     ensures sound { IfOk result (λ r. IfOk r (λ c. IsSoundTaken (record { decls = decls.now; cells = cells; values = values }) c)) }
 {
-    let domain = kept(domain_for(alloc, node, decls, names)?);
-    let missed = judge_var(alloc, node, decls, names, cells, values, domain.as_ref())?;
-    match missed {
+    let reading = scan_var(alloc, node, decls, names)?;
+    let domain = kept(reading.value);
+    match judge_var(
+        node,
+        decls,
+        names,
+        cells,
+        values,
+        reading.missed,
+        domain.as_ref(),
+    ) {
         Some(condition) => Ok(Err(condition)),
         None => counted(alloc, node, cells, values, domain),
     }

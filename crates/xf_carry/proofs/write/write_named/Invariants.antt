@@ -1,4 +1,4 @@
-use Rattle.std.proofs.Common.{◌≤◌, take}
+use Rattle.std.proofs.Common.{◌≤◌, [], take}
 use Rattle.std.specs.List.{flat_map}
 use Rattle.fz_file.specs.Layout.{var_line}
 use Rattle.xf_text.specs.Outside.{Appended}
@@ -8,6 +8,6 @@ abbrev pub invariant-loop-var : goal.invariant-loop-var
 invariant-loop-var g l =
     let w = g.W.Sink in
     record {
-      told : Appended (w.holds l.fn.out) (w.holds l.out) (flat_map var_line (take l.var-index l.named));
+      told : Appended (w.holds l.fn.out) (w.holds l.out) (flat_map (var_line []) (take l.var-index l.named));
       faults : w.faults l.fn.out ≤ w.faults l.out;
     }

@@ -1,4 +1,4 @@
-use Rattle.std.proofs.Common.{sym, subst}
+use Rattle.std.proofs.Common.{sym, subst, []}
 use Rattle.std.specs.List.{flat_map}
 use Rattle.fz_file.specs.Layout.{var_line}
 use Rattle.xf_text.specs.Outside.{Appended, AppendedFront}
@@ -33,4 +33,4 @@ returns-in-Err-default-clause-front g c =
     let is = layout_text c.args.inst.now c.args.named c.requires.accepted.sound c.requires.named in
     let v = c.write_vars.result in
     let vars = err_at v.0 _ c.in-Err-default.is-0 c.write_vars.ensures.front in
-    subst (AppendedFront (h c.args.out) (h v.1)) (sym is) (front_longer (h c.args.out) (h v.1) (flat_map var_line (low c.args.inst.now).vars) (end_lines c.args.named (low_items c.args.inst.now)) vars)
+    subst (AppendedFront (h c.args.out) (h v.1)) (sym is) (front_longer (h c.args.out) (h v.1) (flat_map (var_line []) (low c.args.inst.now).vars) (end_lines c.args.named (low_items c.args.inst.now)) vars)

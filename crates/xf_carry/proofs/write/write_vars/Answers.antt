@@ -1,4 +1,4 @@
-use Rattle.std.proofs.Common.{ap, sym, subst, ◌∙◌, length}
+use Rattle.std.proofs.Common.{ap, sym, subst, ◌∙◌, [], length}
 use Rattle.std.specs.List.{flat_map}
 use Rattle.fz_file.specs.Layout.{var_line}
 use Rattle.xf_text.specs.Outside.{Appended, AppendedFront}
@@ -31,4 +31,4 @@ pub returns-in-Err-clause-front : goal.returns-in-Err-clause-front
 returns-in-Err-clause-front g c =
     let h = g.W.Sink.holds in
     let is = vars_text c.args.inst.now c.args.named.now c.requires.named in
-    subst (AppendedFront (h c.args.out) (h c.write_named.new.out)) (sym is) (front_longer (h c.args.out) (h c.write_named.new.out) (flat_map var_line c.args.named.now) (flat_map var_line (vars_of 0 (low_items c.args.inst.now))) c.in-Err.ensures.front)
+    subst (AppendedFront (h c.args.out) (h c.write_named.new.out)) (sym is) (front_longer (h c.args.out) (h c.write_named.new.out) (flat_map (var_line []) c.args.named.now) (flat_map (var_line []) (vars_of 0 (low_items c.args.inst.now))) c.in-Err.ensures.front)

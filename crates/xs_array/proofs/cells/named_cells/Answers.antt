@@ -15,7 +15,7 @@ pub returns-in_ok-cells-clause-cells : goal.returns-in_ok-cells-clause-cells
 returns-in_ok-cells-clause-cells c =
     let ps = c.args.node.now.pieces in
     let none = no_children ps (ap has_no_child (sym c.as_slice-pieces.ensures) ∙ sym c.has_no_child.ensures ∙ c.if-has_no_child.true) in
-    let domain_is : c.in_ok-domain.domain ≡ text_domain (text_in ps) = c.in_ok-domain.ensures ∙ ap text_domain (c.as_slice.ensures ∙ c.in_ok-text.ensures) in
+    let domain_is : c.in_ok-domain.domain ≡ text_domain (text_in ps) = c.in_ok-domain.ensures.value ∙ ap text_domain (c.as_slice.ensures ∙ c.in_ok-text.ensures) in
     c.in_ok-cells.ensures
     ∙ ap (λ (d : Option (List Bounds)). replicate c.args.count d) domain_is
     ∙ ap (λ (k : ℕ). replicate k (text_domain (text_in ps))) (sym c.requires.count)
@@ -25,7 +25,7 @@ pub returns-in_ok-cells-clause-full : goal.returns-in_ok-cells-clause-full
 returns-in_ok-cells-clause-full c =
     let ps = c.args.node.now.pieces in
     let none = no_children ps (ap has_no_child (sym c.as_slice-pieces.ensures) ∙ sym c.has_no_child.ensures ∙ c.if-has_no_child.true) in
-    let domain_is : c.in_ok-domain.domain ≡ text_domain (text_in ps) = c.in_ok-domain.ensures ∙ ap text_domain (c.as_slice.ensures ∙ c.in_ok-text.ensures) in
+    let domain_is : c.in_ok-domain.domain ≡ text_domain (text_in ps) = c.in_ok-domain.ensures.value ∙ ap text_domain (c.as_slice.ensures ∙ c.in_ok-text.ensures) in
     c.is_some.ensures ∙ ap (λ (d : Option (List Bounds)). is_some d) domain_is ∙ text_full c.args.sizes.now (children_of ps) (text_in ps) none
 
 pub returns-else-has_no_child-clause-cells : goal.returns-else-has_no_child-clause-cells

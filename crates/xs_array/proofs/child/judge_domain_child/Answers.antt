@@ -12,5 +12,5 @@ returns c =
     let sizes = c.args.sizes.now in
     let cells_is = c.attribute-cells.ensures ∙ ap (λ x. value_in (codes "for") x) c.as_slice.ensures in
     let named : c.in_ok-named.named ≡ first_missed (for_meets name sizes (value_in (codes "for") node.attrs)) = c.in_ok-named.ensures ∙ ap (λ o. first_missed (for_meets name sizes o)) cells_is in
-    let text : c.judge_pieces.result ≡ first_missed (pieces_meet (text_in node.pieces)) = c.judge_pieces.ensures ∙ ap (λ t. first_missed (pieces_meet t)) (c.as_slice-2.ensures ∙ c.in_ok-text.ensures) in
+    let text : c.in_ok-text.text ≡ first_missed (pieces_meet (text_in node.pieces)) = c.in_ok-text.ensures in
     c.earlier.ensures.joins (for_meets name sizes (value_in (codes "for") node.attrs)) (pieces_meet (text_in node.pieces)) named text

@@ -22,13 +22,13 @@ returns-then-not-are_positive-clause-value c =
     let less : are_positive (stated_sizes n) ≡ false = ap are_positive (sym (c.as_slice.ensures ∙ c.requires.sizes)) ∙ sym c.are_positive.ensures ∙ c.if-not-are_positive.true in
     not_positive s n clear c.requires.decls c.requires.cells c.requires.values less
 
-pub returns-then-cells-count-gt-MOST_CELLS-clause-value : goal.returns-then-cells-count-gt-MOST_CELLS-clause-value
-returns-then-cells-count-gt-MOST_CELLS-clause-value c =
+pub returns-then-cells-count-gt-MAX_VARIABLES-clause-value : goal.returns-then-cells-count-gt-MAX_VARIABLES-clause-value
+returns-then-cells-count-gt-MAX_VARIABLES-clause-value c =
     let s : Declared = record { decls = c.args.decls.now; cells = c.args.cells; values = c.args.values } in
     let n = c.args.node.now in
     let clear : IsClear s n = record { fields = c.requires.fields; named = c.requires.named } in
     let count_is : c.in-Some.count ≡ cell_count (stated_sizes n) = c.in-Some.ensures.1 ∙ ap cell_count (c.as_slice-2.ensures ∙ c.requires.sizes) in
-    too_many_cells s n clear (λ h. omega (arith, h, count_is, c.if-cells-count-gt-MOST_CELLS.true))
+    too_many_cells s n clear (λ h. omega (arith, h, count_is, c.if-cells-count-gt-MAX_VARIABLES.true))
 
 pub returns-in-None-clause-value : goal.returns-in-None-clause-value
 returns-in-None-clause-value c =
@@ -61,7 +61,7 @@ returns-in_ok-content-in-Some-clause-value c =
     ∙ ap (λ (o : Option (List (Option (List Bounds)))). with_content name (stated_sizes n) o content.full (c.args.cells + c.in-Some.count) c.args.values) c.in_ok-content-in-Some.ensures.cells
     ∙ ap (λ (b : Bool). with_content name (stated_sizes n) (array_cells s.decls n) b (c.args.cells + c.in-Some.count) c.args.values) c.in_ok-content-in-Some.ensures.full
     ∙ ap (λ (k : ℕ). with_content name (stated_sizes n) (array_cells s.decls n) (is_content_full (value_in (codes "as") n.attrs) n) (s.cells + k) s.values) count_is in
-    ok_with c.declared.result (λ r. r ≡ told) (IsTaken s (array_unit n)) (λ r e. taken_with s n r clear positive (omega (arith, count_is, c.if-cells-count-gt-MOST_CELLS.false)) c.requires.values (e ∙ told_is)) c.declared.ensures
+    ok_with c.declared.result (λ r. r ≡ told) (IsTaken s (array_unit n)) (λ r e. taken_with s n r clear positive (omega (arith, count_is, c.if-cells-count-gt-MAX_VARIABLES.false)) c.requires.values (e ∙ told_is)) c.declared.ensures
 
 pub returns-in_ok-content-in-Some-clause-sound : goal.returns-in_ok-content-in-Some-clause-sound
 returns-in_ok-content-in-Some-clause-sound c =
@@ -78,4 +78,4 @@ returns-in_ok-content-in-Some-clause-sound c =
     ∙ ap (λ (o : Option (List (Option (List Bounds)))). with_content name (stated_sizes n) o content.full (c.args.cells + c.in-Some.count) c.args.values) c.in_ok-content-in-Some.ensures.cells
     ∙ ap (λ (b : Bool). with_content name (stated_sizes n) (array_cells s.decls n) b (c.args.cells + c.in-Some.count) c.args.values) c.in_ok-content-in-Some.ensures.full
     ∙ ap (λ (k : ℕ). with_content name (stated_sizes n) (array_cells s.decls n) (is_content_full (value_in (codes "as") n.attrs) n) (s.cells + k) s.values) count_is in
-    ok_with c.declared.result (λ r. r ≡ told) (λ r. IfOk r (λ x. IsSoundTaken s x)) (λ r e. sound_with s n r clear c.requires.decls positive (omega (arith, count_is, c.if-cells-count-gt-MOST_CELLS.false)) (e ∙ told_is)) c.declared.ensures
+    ok_with c.declared.result (λ r. r ≡ told) (λ r. IfOk r (λ x. IsSoundTaken s x)) (λ r e. sound_with s n r clear c.requires.decls positive (omega (arith, count_is, c.if-cells-count-gt-MAX_VARIABLES.false)) (e ∙ told_is)) c.declared.ensures

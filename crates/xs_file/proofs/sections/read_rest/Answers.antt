@@ -1,24 +1,14 @@
-use Rattle.std.proofs.Common.{◌∙◌, Result, Err, sym, ap, subst}
-use Rattle.std.specs.List.{flat_map}
+use Rattle.std.proofs.Common.{◌∙◌, true, Result, Err, Ok, sym, ap, subst}
 use Rattle.xf_text.specs.declared.fault.Fault.{Fault}
-use Rattle.xs_file.specs.Sections.{Progress, section_units}
+use Rattle.xs_file.specs.Sections.{Progress, sections_behind}
 use Rattle.xs_var.specs.Elements.{children_of}
 use Rattle.xs_var.specs.Taken.{IsRead}
-use Rattle.xs_var.specs.Units.{outcome}
-use Rattle.xs_file.proofs.OutcomeLemmas.{on_err, on_ok}
+use Rattle.xs_file.proofs.RunLemmas.{rest_err}
 use Rattle.xs_file.proofs.sections.read_rest.Goals as goal
-
-pub loop-node-preserved : goal.loop-node-preserved
-loop-node-preserved c =
-    let s = c.loop-node.held in
-    let more = flat_map section_units (children_of c.in-Some.more.now) in
-    sym (on_ok s c.read_section.new.held (section_units c.in-Some.node.now) more c.in-Ok.ensures)
-    ∙ ap (λ ns. outcome s (flat_map section_units ns)) (sym c.in-Some.ensures.value)
-    ∙ c.loop-node.invariant
 
 pub returns-in-Err : goal.returns-in-Err
 returns-in-Err c =
     let s = c.loop-node.held in
-    let more = flat_map section_units (children_of c.in-Some.more.now) in
-    let whole = ap (λ ns. outcome s (flat_map section_units ns)) (sym c.in-Some.ensures.value) ∙ c.loop-node.invariant in
-    subst (λ (r : Result Progress Fault). IsRead {A = Unit {0}} (λ _. s) (Err c.in-Err.stop) r) whole (on_err {A = Unit {0}} (λ _. s) s c.in-Err.stop (section_units c.in-Some.node.now) more c.in-Err.ensures)
+    let more = children_of c.in-Some.more.now in
+    let whole = ap (λ ns. sections_behind true (Ok s) ns) (sym c.in-Some.ensures.value) ∙ c.loop-node.invariant.so_far in
+    subst (λ (r : Result Progress Fault). IsRead {A = Progress} (λ h. h) (Err c.in-Err.stop) r) whole (rest_err s c.in-Err.stop c.in-Some.node.now more c.in-Err.ensures.outcome)

@@ -1,14 +1,31 @@
-use Rattle.std.proofs.Common.{rules, ◌≡◌, ◌∙◌, sym, ap, Err}
-use Rattle.xf_text.specs.declared.fault.FieldStop.TheVariants.{Refused}
-use Rattle.xs_fields.specs.Conditions.{answer_on}
-use Rattle.xs_relate.specs.Different.{different_of, is_list_shallow}
-use Rattle.xs_relate.proofs.MissedLemmas.{different_first}
+use Rattle.std.proofs.Common.{◌≡◌, ◌∙◌, None, [], List, ℕ, Option, Bool, Bor, ap, sym, codes, rules}
+use Rattle.std.specs.Option.{option_map}
+use Rattle.xs_fields.specs.Conditions.{first_missed}
+use Rattle.xs_parts.specs.Nesting.{are_words_shallow}
+use Rattle.xs_parts.specs.Parts.{one_text, text_of_one}
+use Rattle.xs_parts.proofs.JoinLemmas.{answered_so}
+use Rattle.xs_relate.specs.Unit.{form_text, unit_meets}
+use Rattle.xs_var.specs.Elements.{text_or_none}
+use Rattle.xs_fields.specs.Cells.{vars_meet, vars_of}
+use Rattle.xs_model.specs.declared.instance.Constraint.TheVariants.{AllDifferent}
+use Rattle.xs_relate.specs.Different.{different_of}
 use Rattle.xs_relate.proofs.different.read_different.Goals as goal
 
-pub returns-in-Some-clause-value : goal.returns-in-Some-clause-value
-returns-in-Some-clause-value c =
+pub returns-clause-value : goal.returns-clause-value
+returns-clause-value c =
     let os = c.args.names.now in
-    let node = c.args.node.now in
-    let same : c.is_list_shallow-shallow.result ≡ is_list_shallow node = search rules in
-    let first = different_first os c.args.left node c.in-Some.missed c.is_list_shallow-shallow.result same (sym c.judge_unit.ensures ∙ c.in-Some.is) in
-    ap (λ k. Err (Refused k)) c.kind.ensures ∙ sym (ap (λ m. answer_on m (different_of os node)) first)
+    let left = c.args.left in
+    let parts = c.args.c.now.parts in
+    let child = codes "list" in
+    let one : option_map (λ (x : Bor (List ℕ)). x.now) c.one_text-text.result ≡ one_text child parts = search rules in
+    let shallow : c.are_words_shallow.result ≡ are_words_shallow (text_of_one (codes "list") parts) = search rules in
+    let text : c.text_or_none.result.now ≡ form_text child c.args.c.now = c.text_or_none.ensures ∙ ap text_or_none one in
+    let is_unit : c.judge_unit-unit.result ≡ first_missed (unit_meets (are_words_shallow (text_of_one (codes "list") parts)) (one_text child parts)) =
+    c.judge_unit-unit.ensures ∙ ap (λ (v : Bool). first_missed (unit_meets v (option_map (λ (x : Bor (List ℕ)). x.now) c.one_text-text.result))) shallow
+    ∙ ap (λ (t : Option (List ℕ)). first_missed (unit_meets (are_words_shallow (text_of_one (codes "list") parts)) t)) one in
+    let is_missed : c.in_ok-reading.reading.missed ≡ first_missed (vars_meet os (form_text child c.args.c.now) left) =
+    c.in_ok-reading.ensures.missed ∙ ap (λ (t : List ℕ). first_missed (vars_meet os t left)) text in
+    answered_so c.judge_unit-unit.result c.in_ok-reading.reading.missed c.earlier.result c.in_ok-reading.reading.value (different_of os c.args.c.now)
+    (unit_meets (are_words_shallow (text_of_one (codes "list") parts)) (one_text child parts)) (vars_meet os (form_text child c.args.c.now) left) c.answered.result
+    c.answered.ensures c.earlier.ensures.value is_unit is_missed
+    (λ none. c.in_ok-reading.ensures.value none ∙ ap (λ (t : List ℕ). AllDifferent (vars_of os t) []) text)

@@ -1,26 +1,31 @@
-use Rattle.std.proofs.Common.{◌∙◌, sym, ap, subst, Err, Option, List, ℕ}
-use Rattle.xf_text.specs.declared.fault.FieldStop.TheVariants.{Refused}
-use Rattle.xs_fields.specs.Conditions.{IsOrMemory, answer_on, first_missed}
-use Rattle.xs_fields.specs.declared.condition.Condition.{Condition}
+use Rattle.std.proofs.Common.{◌≡◌, ◌∙◌, None, [], List, ℕ, Option, Bool, Bor, ap, sym, codes, rules}
+use Rattle.std.specs.Option.{option_map}
+use Rattle.xs_fields.specs.Conditions.{first_missed}
+use Rattle.xs_parts.specs.Nesting.{are_parts_shallow}
+use Rattle.xs_parts.specs.Parts.{one_text}
+use Rattle.xs_parts.proofs.JoinLemmas.{answered_so}
+use Rattle.xs_relate.specs.Unit.{form_text, unit_meets}
+use Rattle.xs_var.specs.Elements.{text_or_none}
+use Rattle.xs_notation.specs.Reading.{counted_expr_meets, expr_at}
 use Rattle.xs_model.specs.declared.instance.Constraint.TheVariants.{Intension}
-use Rattle.xs_notation.specs.Reading.{expr_at}
-use Rattle.xs_relate.specs.Intension.{expression_meets, intension_of}
-use Rattle.xs_relate.proofs.MissedLemmas.{intension_first, intension_behind}
+use Rattle.xs_relate.specs.Intension.{intension_of}
 use Rattle.xs_relate.proofs.intension.read_intension.Goals as goal
 
-pub returns-in-Some-clause-value : goal.returns-in-Some-clause-value
-returns-in-Some-clause-value c =
+pub returns-clause-value : goal.returns-clause-value
+returns-clause-value c =
     let os = c.args.names.now in
-    let node = c.args.node.now in
-    let first = intension_first os c.args.left node c.in-Some.missed c.in_ok-shallow.shallow c.in_ok-shallow.ensures (sym c.judge_unit.ensures ∙ c.in-Some.is) in
-    ap (λ k. Err (Refused k)) c.kind.ensures ∙ sym (ap (λ m. answer_on m (intension_of os node)) first)
-
-pub returns-in_ok-text-in-None-clause-value : goal.returns-in_ok-text-in-None-clause-value
-returns-in_ok-text-in-None-clause-value c =
-    let os = c.args.names.now in
-    let node = c.args.node.now in
     let left = c.args.left in
-    let behind = intension_behind os left node c.in_ok-shallow.shallow c.in_ok-shallow.ensures (sym c.judge_unit.ensures ∙ c.in-None.is) in
-    let same = c.as_slice.ensures ∙ c.in_ok-text-in-None.ensures in
-    let P : List ℕ → Type 0 = λ t. IsOrMemory c.read_expression.result (answer_on (first_missed (expression_meets os left t)) (Intension (expr_at os t))) in
-    subst (λ (m : Option Condition). IsOrMemory c.read_expression.result (answer_on m (intension_of os node))) (sym behind) (subst P same c.read_expression.ensures.value)
+    let parts = c.args.c.now.parts in
+    let child = codes "function" in
+    let one : option_map (λ (x : Bor (List ℕ)). x.now) c.one_text-text.result ≡ one_text child parts = search rules in
+    let shallow : c.are_parts_shallow.result ≡ are_parts_shallow parts = search rules in
+    let text : c.text_or_none.result.now ≡ form_text child c.args.c.now = c.text_or_none.ensures ∙ ap text_or_none one in
+    let is_unit : c.judge_unit-unit.result ≡ first_missed (unit_meets (are_parts_shallow parts) (one_text child parts)) =
+    c.judge_unit-unit.ensures ∙ ap (λ (v : Bool). first_missed (unit_meets v (option_map (λ (x : Bor (List ℕ)). x.now) c.one_text-text.result))) shallow
+    ∙ ap (λ (t : Option (List ℕ)). first_missed (unit_meets (are_parts_shallow parts) t)) one in
+    let is_missed : c.in_ok-reading.reading.missed ≡ first_missed (counted_expr_meets os (form_text child c.args.c.now) left) =
+    c.in_ok-reading.ensures.missed ∙ ap (λ (t : List ℕ). first_missed (counted_expr_meets os t left)) text in
+    answered_so c.judge_unit-unit.result c.in_ok-reading.reading.missed c.earlier.result c.in_ok-reading.reading.value (intension_of os c.args.c.now)
+    (unit_meets (are_parts_shallow parts) (one_text child parts)) (counted_expr_meets os (form_text child c.args.c.now) left) c.answered.result
+    c.answered.ensures c.earlier.ensures.value is_unit is_missed
+    (λ none. c.in_ok-reading.ensures.value none ∙ ap (λ (t : List ℕ). Intension (expr_at os t)) text)

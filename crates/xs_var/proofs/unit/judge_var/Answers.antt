@@ -16,4 +16,4 @@ returns c =
     let counts_is : c.judge_counts-counts.result ≡ first_missed (counts_meet c.args.cells c.args.values d) = c.judge_counts-counts.ensures ∙ ap (λ o. first_missed (counts_meet c.args.cells c.args.values o)) c.requires.domain in
     let names_is : c.judge_names.result ≡ first_missed (names_meet (names_of ds) node) = c.judge_names.ensures ∙ ap (λ ns. first_missed (names_meet ns node)) (ap names_in c.requires.names ∙ names_known ds) in
     let others = c.earlier-others.ensures.joins (names_meet (names_of ds) node) (counts_meet c.args.cells c.args.values d) names_is counts_is in
-    c.earlier.ensures.joins (var_fields_meet node) (λ k. names_meet (names_of ds) node k && counts_meet c.args.cells c.args.values d k) c.in_ok-fields.ensures others
+    c.earlier.ensures.joins (var_fields_meet node) (λ k. names_meet (names_of ds) node k && counts_meet c.args.cells c.args.values d k) c.requires.fields others

@@ -26,4 +26,4 @@ pub returns : goal.returns
 returns c = λ v.
     let nil : drop c.loop-next.next-index c.args.rest.now ≡ [] = drop_of_length-le _ c.loop-next-test.false in
     let s = subst (Standing c.loop-next.spans c.loop-next.last c.args.first c.args.rest.now) nil c.loop-next.invariant in
-    subst (λ ds. IsMember ds v ↔ IsMember (c.args.first ∷ c.args.rest.now) v) (sym c.in_ok-push-2.ensures.ok) (ends _ _ _ _ v c.requires s)
+    subst (λ ds. IsMember ds v ↔ IsMember (c.args.first ∷ c.args.rest.now) v) (sym (c.shrink_to_fit.ensures ∙ c.in_ok-push-2.ensures.ok)) (ends _ _ _ _ v c.requires s)

@@ -1,0 +1,16 @@
+pub mod Again
+pub mod Arguments
+pub mod Cuts
+pub mod Domains
+pub mod Ends
+pub mod Folds
+pub mod Items
+pub mod Levels
+pub mod Lines
+pub mod Names
+pub mod Numbers
+pub mod Once
+pub mod Places
+pub mod Trees
+pub mod Values
+pub mod Whole

@@ -1,5 +1,0 @@
-use Rattle.fz_model.proofs.Fitting.{SumGoes}
-use Rattle.fz_model.proofs.sums.sum_of_products.Given as goal
-
-abbrev pub invariant-loop-at : goal.invariant-loop-at
-invariant-loop-at l = SumGoes l.b l.coefficients l.items l.sum l.at

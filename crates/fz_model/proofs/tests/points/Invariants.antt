@@ -1,6 +1,0 @@
-use Rattle.std.proofs.Common.{◌≡◌, map, take}
-use Rattle.fz_model.specs.Sound.{exactly}
-use Rattle.fz_model.proofs.tests.points.Given as goal
-
-abbrev pub invariant-loop-value : goal.invariant-loop-value
-invariant-loop-value l = l.spans.items ≡ map exactly (take l.value-index l.values)

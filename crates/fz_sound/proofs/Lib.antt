@@ -1,0 +1,12 @@
+pub mod SoundValues
+pub mod Growing
+pub mod SoundCalls
+pub mod SoundDomains
+pub mod SoundOutputs
+pub mod NameTokens
+pub mod NameItems
+pub mod Newness
+pub mod SoundItems
+pub mod NamesHeld
+pub mod CountsHeld
+pub mod SoundGoals

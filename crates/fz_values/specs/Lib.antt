@@ -1,0 +1,4 @@
+pub mod Integers
+pub mod Names
+pub mod Values
+pub mod Kinds

@@ -1,0 +1,9 @@
+pub mod Targets
+pub mod Reaching
+pub mod Arrivals
+pub mod Weighted
+pub mod Totals
+pub mod PathLemmas
+pub mod FormedLemmas
+pub mod LawLemmas
+pub mod SoundLemmas

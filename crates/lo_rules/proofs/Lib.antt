@@ -1,0 +1,15 @@
+pub mod Tests
+pub mod Rules
+pub mod Atoms
+pub mod Terms
+pub mod Loops
+pub mod Chains
+pub mod Pairs
+pub mod Linear
+pub mod Integers
+pub mod Values
+pub mod Conditions
+pub mod LiteralRules
+pub mod Making
+pub mod MakingLoops
+pub mod MakingConditions

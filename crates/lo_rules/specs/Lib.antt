@@ -1,0 +1,5 @@
+pub mod Rule
+pub mod Laws
+pub mod Formed
+pub mod Conditions
+pub mod Literals

@@ -1,5 +1,0 @@
-pub mod Steps
-pub mod Nodes
-pub mod Expressions
-pub mod Sizes
-pub mod Squares

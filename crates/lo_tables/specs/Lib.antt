@@ -1,0 +1,4 @@
+pub mod Table
+pub mod Unary
+pub mod Form
+pub mod Laws

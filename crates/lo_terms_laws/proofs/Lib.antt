@@ -1,0 +1,9 @@
+pub mod Same
+pub mod Operands
+pub mod Numbers
+pub mod Powers
+pub mod Truths
+pub mod Nodes
+pub mod Stated
+pub mod Trees
+pub mod Lowered

@@ -1,0 +1,4 @@
+pub mod Files
+pub mod Course
+pub mod Answers
+pub mod Ends

@@ -1,0 +1,2 @@
+pub mod SlideLemmas
+pub mod OrderLemmas

@@ -1,0 +1,4 @@
+pub mod Seen
+pub mod Forms
+pub mod Room
+pub mod Laws

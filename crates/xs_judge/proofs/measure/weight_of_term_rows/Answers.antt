@@ -1,0 +1,10 @@
+use Rattle.std.proofs.Common.{[], ◌∷◌, ◌∙◌, length}
+use Rattle.xs_model.specs.Fields.{item_of}
+use Rattle.xs_judge.proofs.FieldWeights.{flat_map-single, formed_rows, weight_of_rows}
+use Rattle.xs_judge.proofs.measure.weight_of_term_rows.Goals as goal
+
+pub weight_of_each-requires : goal.weight_of_each-requires
+weight_of_each-requires c = formed_rows (λ x. item_of x ∷ []) item_of (flat_map-single item_of) (length c.args.spans.now) c.args.rows.now c.requires
+
+pub returns : goal.returns
+returns c = c.weight_of_each.ensures ∙ weight_of_rows (λ x. item_of x ∷ []) item_of (flat_map-single item_of) c.args.spans.now c.args.rows.now

@@ -1,0 +1,78 @@
+-- How an `extension`, a `regular` and an `mdd` are written (XCSP3-core, the forms of these names): on one line, a list and then
+-- what is said of it.
+use Rattle.std.specs.Prelude.{ℕ, ℤ, pos, Bool, true, false, List, [], ◌∷◌, ◌++◌, map, Option, None, Some, slice_index_or, if◌then◌else◌, codes}
+use Rattle.std.specs.Fmt.{signed_decimal}
+use Rattle.std.specs.List.{flat_map}
+use Rattle.std.specs.Ordering.{int_eq}
+use Rattle.xf_num.specs.Span.{Bounds}
+use Rattle.xs_expr.specs.Text.{joined_from}
+use Rattle.xs_model.specs.declared.instance.Constraint.{Constraint}
+use Rattle.xs_model.specs.declared.instance.Constraint.TheVariants.{Extension, Mdd, Regular, Unary}
+use Rattle.xs_model.specs.declared.instance.Edge.{Edge}
+
+-- a text: a space, and then its words, a space behind each
+abbrev pub spaced : List (List ℕ) → List ℕ
+spaced ws = codes " " ++ flat_map (λ w. w ++ codes " ") ws
+
+abbrev pub entry_text : Option ℤ → List ℕ
+entry_text None = codes "*"
+entry_text (Some z) = signed_decimal z
+
+-- a tuple is one word
+abbrev pub tuple_text : List (Option ℤ) → List ℕ
+tuple_text t = codes "(" ++ (joined_from [] (map entry_text t) ++ codes ")")
+
+-- a range is its one integer, or both ends
+abbrev pub range_text : Bounds → List ℕ
+range_text b = if int_eq b.lo b.hi then signed_decimal b.lo else signed_decimal b.lo ++ (codes ".." ++ signed_decimal b.hi)
+
+-- the direct words of all variables are given
+abbrev pub list_text : List (List ℕ) → List ℕ → List ℕ
+list_text words vs = spaced (map (λ v. slice_index_or words v []) vs)
+
+abbrev pub tuples_text : List (List (Option ℤ)) → List ℕ
+tuples_text ts = spaced (map tuple_text ts)
+
+abbrev pub ranges_text : List Bounds → List ℕ
+ranges_text bs = spaced (map range_text bs)
+
+abbrev pub opening : Bool → List ℕ
+opening true = codes "</list> <supports>"
+opening false = codes "</list> <conflicts>"
+
+abbrev pub closing : Bool → List ℕ
+closing true = codes "</supports> </extension>"
+closing false = codes "</conflicts> </extension>"
+
+abbrev pub extension_text : Bool → List ℕ → List ℕ → List ℕ
+extension_text positive list table = codes "<extension> <list>" ++ (list ++ (opening positive ++ (table ++ closing positive)))
+
+-- a state is written by its number, and a transition is one word
+abbrev pub state_text : ℕ → List ℕ
+state_text q = codes "s" ++ signed_decimal (pos q)
+
+abbrev pub edge_text : Edge → List ℕ
+edge_text e = codes "(" ++ (joined_from [] (state_text e.from ∷ signed_decimal e.value ∷ state_text e.to ∷ []) ++ codes ")")
+
+abbrev pub transitions_text : List Edge → List ℕ
+transitions_text es = spaced (map edge_text es)
+
+abbrev pub states_text : List ℕ → List ℕ
+states_text qs = spaced (map state_text qs)
+
+abbrev pub regular_text : List ℕ → List ℕ → List ℕ → List ℕ → List ℕ
+regular_text list transitions start finals =
+    codes "<regular> <list>"
+    ++ (list
+    ++ (codes "</list> <transitions>" ++ (transitions ++ (codes "</transitions> <start>" ++ (start ++ (codes "</start> <final>" ++ (finals ++ codes "</final> </regular>")))))))
+
+abbrev pub mdd_text : List ℕ → List ℕ → List ℕ
+mdd_text list transitions = codes "<mdd> <list>" ++ (list ++ (codes "</list> <transitions>" ++ (transitions ++ codes "</transitions> </mdd>")))
+
+-- the whole constraint
+abbrev pub form_text : List (List ℕ) → Constraint → List ℕ
+form_text words (Extension list tuples positive) = extension_text positive (list_text words list) (tuples_text tuples)
+form_text words (Unary v spans positive) = extension_text positive (list_text words (v ∷ [])) (ranges_text spans)
+form_text words (Regular list edges start finals) = regular_text (list_text words list) (transitions_text edges) (states_text (start ∷ [])) (states_text finals)
+form_text words (Mdd list edges root leaf) = mdd_text (list_text words list) (transitions_text edges)
+form_text words c = []

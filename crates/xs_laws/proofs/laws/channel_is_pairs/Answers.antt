@@ -1,0 +1,5 @@
+use Rattle.xs_laws.proofs.Channels.{channel_is_pairs}
+use Rattle.xs_laws.proofs.laws.channel_is_pairs.Goals as goal
+
+pub returns : goal.returns
+returns c = channel_is_pairs

@@ -1,0 +1,13 @@
+pub mod Indices
+pub mod Firsts
+pub mod Chain
+pub mod Channels
+pub mod Peaks
+pub mod Examples
+pub mod Neighbours
+pub mod Ascending
+pub mod Elements
+pub mod Meeting
+pub mod Boxes
+pub mod Cardinality
+pub mod Tables

@@ -1,6 +1,0 @@
-use Rattle.std.proofs.Common.{◌≡◌, ◌+◌, drop}
-use Rattle.xs_model.specs.Formed.{nodes_of}
-use Rattle.xs_model.proofs.items.+count.Given as goal
-
-abbrev pub invariant-count_all-loop-expr : goal.invariant-count_all-loop-expr
-invariant-count_all-loop-expr l = l.total + nodes_of (drop l.expr-index l.exprs) ≡ nodes_of l.exprs

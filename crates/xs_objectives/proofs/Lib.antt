@@ -1,0 +1,4 @@
+pub mod GoodLemmas
+pub mod MissedLemmas
+mod TextLemmas
+mod WrittenLemmas

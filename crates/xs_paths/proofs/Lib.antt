@@ -1,0 +1,9 @@
+pub mod Cycle
+pub mod Circuit
+pub mod Steps
+pub mod Reach
+pub mod Layers
+pub mod Carried
+pub mod Examples
+pub mod Round
+pub mod Flags

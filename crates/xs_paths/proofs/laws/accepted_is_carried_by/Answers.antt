@@ -1,0 +1,5 @@
+use Rattle.xs_paths.proofs.Carried.{accepted_is_carried_by}
+use Rattle.xs_paths.proofs.laws.accepted_is_carried_by.Goals as goal
+
+pub returns : goal.returns
+returns c = accepted_is_carried_by

@@ -1,0 +1,5 @@
+pub mod Groups
+pub mod Tuples
+pub mod Tables
+pub mod Extension
+pub mod Holding

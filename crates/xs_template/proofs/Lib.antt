@@ -1,0 +1,4 @@
+pub mod SpotLemmas
+pub mod WindowLemmas
+pub mod TemplateLemmas
+pub mod AlikeLemmas

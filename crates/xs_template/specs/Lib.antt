@@ -1,0 +1,4 @@
+pub mod Template
+pub mod Windows
+pub mod Concrete
+pub mod Alike

@@ -1,0 +1,3 @@
+pub mod ArgLemmas
+pub mod CellLemmas
+pub mod CompactLemmas
