@@ -22,7 +22,7 @@ use Rattle.xs_fields.specs.declared.condition.Condition.{Condition}
 use Rattle.xs_fields.specs.declared.condition.Condition.TheVariants.{Known, Nesting, Spelling, Magnitude, Naming, Counting, Fitting}
 use Rattle.xs_fields.proofs.FirstLemmas.{all_met}
 use Rattle.xs_forms.specs.Room.{states_of as states_in}
-use Rattle.xs_language.specs.Law.{IsReadAgain}
+use Rattle.xs_language.proofs.Texts.{AreReadAgain}
 use Rattle.xs_language.specs.Written.{edge_text, list_text, state_text, states_text, transitions_text}
 use Rattle.xs_language.proofs.CutLemmas.{AreEntries, IsWord, between_commas, both, joined_close, lacks_space, next_behind, next_groups, spaced_words}
 use Rattle.xs_language.proofs.NumberedLemmas.{AreNumbers, IsNumber, edges_back, named_step, names_to, numbered, state_bytes, state_identifier, states_back}
@@ -159,7 +159,7 @@ front_numbers (x ∷ xs) ys h = (h.0, front_numbers xs ys h.1)
 
 module _ (ds : List Decl) (d : AreDeclared ds) where
   -- an automaton
-  pub regular_again : (vs : List ℕ) (es : List Edge) (start : ℕ) (qs : List ℕ) → IsFormed (length (words ds)) (Regular vs es start qs) → AreNumbers (states_in (Regular vs es start qs)) → IsReadAgain ds (Regular vs es start qs)
+  pub regular_again : (vs : List ℕ) (es : List Edge) (start : ℕ) (qs : List ℕ) → IsFormed (length (words ds)) (Regular vs es start qs) → AreNumbers (states_in (Regular vs es start qs)) → AreReadAgain ds (Regular vs es start qs)
   regular_again vs es start qs h numbers =
       let os = outlines_of ds in
       let below = below_of_items (length (words ds)) vs h.fields.0 in
@@ -194,7 +194,7 @@ module _ (ds : List Decl) (d : AreDeclared ds) where
       }
 
   -- a diagram
-  pub mdd_again : (vs : List ℕ) (es : List Edge) (root leaf : ℕ) → IsFormed (length (words ds)) (Mdd vs es root leaf) → AreNumbers (states_in (Mdd vs es root leaf)) → IsReadAgain ds (Mdd vs es root leaf)
+  pub mdd_again : (vs : List ℕ) (es : List Edge) (root leaf : ℕ) → IsFormed (length (words ds)) (Mdd vs es root leaf) → AreNumbers (states_in (Mdd vs es root leaf)) → AreReadAgain ds (Mdd vs es root leaf)
   mdd_again vs es root leaf h numbers =
       let os = outlines_of ds in
       let below = below_of_items (length (words ds)) vs h.fields.0 in

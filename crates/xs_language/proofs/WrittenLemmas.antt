@@ -26,7 +26,7 @@ use Rattle.xs_fields.proofs.Decimals.{decimal-spells, integer-bytes, integer-is,
 use Rattle.xs_fields.proofs.DistinctNames.{one_denotation}
 use Rattle.xs_fields.proofs.FirstLemmas.{all_met, met_at}
 use Rattle.xs_fields.proofs.IntegerLemmas.{and_left, and_right}
-use Rattle.xs_language.specs.Law.{IsReadAgain}
+use Rattle.xs_language.proofs.Texts.{AreReadAgain}
 use Rattle.xs_language.specs.Written.{entry_text, list_text, range_text, ranges_text, tuple_text, tuples_text}
 use Rattle.xs_language.proofs.CutLemmas.{AreEntries, IsWord, Lacks, between_commas, both, joined_close, lacks_space, next_behind, next_groups, some_inner, spaced_words, split, whole}
 use Rattle.xs_model.specs.Accepted.{IsFormed}
@@ -383,7 +383,7 @@ module _ (ds : List Decl) (d : AreDeclared ds) where
   of_many (v ∷ []) positive some one = absurd (one refl)
   of_many (v ∷ w ∷ vs) positive some one = refl
 
-  pub extension_again : (vs : List ℕ) (ts : List (List (Option ℤ))) (positive : Bool) → IsFormed (length (words ds)) (Extension vs ts positive) → IsReadAgain ds (Extension vs ts positive)
+  pub extension_again : (vs : List ℕ) (ts : List (List (Option ℤ))) (positive : Bool) → IsFormed (length (words ds)) (Extension vs ts positive) → AreReadAgain ds (Extension vs ts positive)
   extension_again vs [] positive h =
       let below = table_below (length (words ds)) vs [] positive h in
       record {
@@ -410,7 +410,7 @@ module _ (ds : List Decl) (d : AreDeclared ds) where
             ∙ ap (λ us. Extension us (tuples_of (tuples_text (t ∷ ts))) positive) (list_back vs below) ∙ ap (λ us. Extension vs us positive) (tuples_back (t ∷ ts) are);
       }
 
-  pub unary_again : (v : ℕ) (bs : List Bounds) (positive : Bool) → IsFormed (length (words ds)) (Unary v bs positive) → IsReadAgain ds (Unary v bs positive)
+  pub unary_again : (v : ℕ) (bs : List Bounds) (positive : Bool) → IsFormed (length (words ds)) (Unary v bs positive) → AreReadAgain ds (Unary v bs positive)
   unary_again v bs positive h =
       let below : Declared (v ∷ []) = h.fields.0 in
       let are : AllByRecursion IsPiece bs = are_pieces (length (words ds)) bs h.fitting h.fields.1.0 in

@@ -1,11 +1,13 @@
 -- How an `extension`, a `regular` and an `mdd` are written (XCSP3-core, the forms of these names): on one line, a list and then
--- what is said of it.
+-- what is said of it, each as a child.
 use Rattle.std.specs.Prelude.{ℕ, ℤ, pos, Bool, true, false, List, [], ◌∷◌, ◌++◌, map, Option, None, Some, slice_index_or, if◌then◌else◌, codes}
 use Rattle.std.specs.Fmt.{signed_decimal}
 use Rattle.std.specs.List.{flat_map}
 use Rattle.std.specs.Ordering.{int_eq}
 use Rattle.xf_num.specs.Span.{Bounds}
 use Rattle.xs_expr.specs.Text.{joined_from}
+use Rattle.xs_model.specs.declared.concrete.Concrete.{Concrete}
+use Rattle.xs_model.specs.declared.concrete.Part.{Part}
 use Rattle.xs_model.specs.declared.instance.Constraint.{Constraint}
 use Rattle.xs_model.specs.declared.instance.Constraint.TheVariants.{Extension, Mdd, Regular, Unary}
 use Rattle.xs_model.specs.declared.instance.Edge.{Edge}
@@ -36,17 +38,6 @@ tuples_text ts = spaced (map tuple_text ts)
 abbrev pub ranges_text : List Bounds → List ℕ
 ranges_text bs = spaced (map range_text bs)
 
-abbrev pub opening : Bool → List ℕ
-opening true = codes "</list> <supports>"
-opening false = codes "</list> <conflicts>"
-
-abbrev pub closing : Bool → List ℕ
-closing true = codes "</supports> </extension>"
-closing false = codes "</conflicts> </extension>"
-
-abbrev pub extension_text : Bool → List ℕ → List ℕ → List ℕ
-extension_text positive list table = codes "<extension> <list>" ++ (list ++ (opening positive ++ (table ++ closing positive)))
-
 -- a state is written by its number, and a transition is one word
 abbrev pub state_text : ℕ → List ℕ
 state_text q = codes "s" ++ signed_decimal (pos q)
@@ -60,19 +51,48 @@ transitions_text es = spaced (map edge_text es)
 abbrev pub states_text : List ℕ → List ℕ
 states_text qs = spaced (map state_text qs)
 
-abbrev pub regular_text : List ℕ → List ℕ → List ℕ → List ℕ → List ℕ
-regular_text list transitions start finals =
-    codes "<regular> <list>"
-    ++ (list
-    ++ (codes "</list> <transitions>" ++ (transitions ++ (codes "</transitions> <start>" ++ (start ++ (codes "</start> <final>" ++ (finals ++ codes "</final> </regular>")))))))
+-- a child, and an element that has children alone
+abbrev pub child : List ℕ → List ℕ → Part
+child name text = record { name = name; attrs = []; text = text }
 
-abbrev pub mdd_text : List ℕ → List ℕ → List ℕ
-mdd_text list transitions = codes "<mdd> <list>" ++ (list ++ (codes "</list> <transitions>" ++ (transitions ++ codes "</transitions> </mdd>")))
+abbrev pub element : List ℕ → List Part → Concrete
+element name parts = record { name = name; attrs = []; parts = parts; place = 0 }
 
--- the whole constraint
-abbrev pub form_text : List (List ℕ) → Constraint → List ℕ
-form_text words (Extension list tuples positive) = extension_text positive (list_text words list) (tuples_text tuples)
-form_text words (Unary v spans positive) = extension_text positive (list_text words (v ∷ [])) (ranges_text spans)
-form_text words (Regular list edges start finals) = regular_text (list_text words list) (transitions_text edges) (states_text (start ∷ [])) (states_text finals)
-form_text words (Mdd list edges root leaf) = mdd_text (list_text words list) (transitions_text edges)
-form_text words c = []
+-- a table is one of supports or of conflicts
+abbrev pub table_name : Bool → List ℕ
+table_name true = codes "supports"
+table_name false = codes "conflicts"
+
+abbrev pub extension_element : Bool → List ℕ → List ℕ → Concrete
+extension_element positive list table = element (codes "extension") (child (codes "list") list ∷ child (table_name positive) table ∷ [])
+
+abbrev pub regular_element : List ℕ → List ℕ → List ℕ → List ℕ → Concrete
+regular_element list transitions start finals =
+    element (codes "regular") (child (codes "list") list ∷ child (codes "transitions") transitions ∷ child (codes "start") start ∷ child (codes "final") finals ∷ [])
+
+abbrev pub mdd_element : List ℕ → List ℕ → Concrete
+mdd_element list transitions = element (codes "mdd") (child (codes "list") list ∷ child (codes "transitions") transitions ∷ [])
+
+-- the element that stands for a constraint
+abbrev pub element_of : List (List ℕ) → Constraint → Concrete
+element_of words (Extension list tuples positive) = extension_element positive (list_text words list) (tuples_text tuples)
+element_of words (Unary v spans positive) = extension_element positive (list_text words (v ∷ [])) (ranges_text spans)
+element_of words (Regular list edges start finals) = regular_element (list_text words list) (transitions_text edges) (states_text (start ∷ [])) (states_text finals)
+element_of words (Mdd list edges root leaf) = mdd_element (list_text words list) (transitions_text edges)
+element_of words c = element [] []
+
+-- the text of an element that has children alone: a space before each of them, and before its end tag
+abbrev pub part_text : Part → List ℕ
+part_text p = codes " <" ++ (p.name ++ (codes ">" ++ (p.text ++ (codes "</" ++ (p.name ++ codes ">")))))
+
+abbrev pub element_text : Concrete → List ℕ
+element_text c = codes "<" ++ (c.name ++ (codes ">" ++ (flat_map part_text c.parts ++ (codes " </" ++ (c.name ++ codes ">")))))
+
+-- what stands round a table: behind the list, and to the end
+abbrev pub opening : Bool → List ℕ
+opening true = codes "</list> <supports>"
+opening false = codes "</list> <conflicts>"
+
+abbrev pub closing : Bool → List ℕ
+closing true = codes "</supports> </extension>"
+closing false = codes "</conflicts> </extension>"

@@ -2,7 +2,7 @@
 
 ghost use Rattle.std.specs.Prelude.{◌≡◌, ◌<◌, ◌++◌, ◌∷◌, [], codes, length, map, IfOk, OnOk};
 ghost use Rattle.std.specs.List.{AllByRecursion};
-ghost use Rattle.xs_language.specs.Written.{edge_text, list_text, mdd_text, regular_text, state_text, states_text, transitions_text};
+ghost use Rattle.xs_language.specs.Written.{edge_text, element_text, list_text, mdd_element, regular_element, state_text, states_text, transitions_text};
 ghost use Rattle.xs_model.specs.Names.{words};
 ghost use Rattle.xs_model.specs.Sound.{IsSoundDecl};
 
@@ -95,7 +95,7 @@ pub(crate) fn write_automaton(
 ) -> Result<Vec<u8>, NoMemory>
     requires sound { AllByRecursion IsSoundDecl decls.now }
     requires declared { AllByRecursion (λ v. v < length (words decls.now)) list.now }
-    ensures { IfOk result (λ text. text.items ≡ regular_text (list_text (words decls.now) list.now) (transitions_text edges.now) (states_text (start ∷ [])) (states_text finals.now)) }
+    ensures { IfOk result (λ text. text.items ≡ element_text (regular_element (list_text (words decls.now) list.now) (transitions_text edges.now) (states_text (start ∷ [])) (states_text finals.now))) }
 {
     let mut out = Vec::new(alloc);
     out.extend_from_slice(b"<regular> <list>")?;
@@ -113,7 +113,7 @@ pub(crate) fn write_diagram(
 ) -> Result<Vec<u8>, NoMemory>
     requires sound { AllByRecursion IsSoundDecl decls.now }
     requires declared { AllByRecursion (λ v. v < length (words decls.now)) list.now }
-    ensures { IfOk result (λ text. text.items ≡ mdd_text (list_text (words decls.now) list.now) (transitions_text edges.now)) }
+    ensures { IfOk result (λ text. text.items ≡ element_text (mdd_element (list_text (words decls.now) list.now) (transitions_text edges.now))) }
 {
     let mut out = Vec::new(alloc);
     out.extend_from_slice(b"<mdd> <list>")?;

@@ -5,7 +5,7 @@ ghost use Rattle.std.specs.Fmt.{signed_decimal};
 ghost use Rattle.std.specs.List.{AllByRecursion};
 ghost use Rattle.xs_expr.specs.Text.{joined_from};
 ghost use Rattle.xs_language.specs.Language.{is_language};
-ghost use Rattle.xs_language.specs.Written.{closing, entry_text, extension_text, form_text, list_text, opening, range_text, ranges_text, tuple_text, tuples_text};
+ghost use Rattle.xs_language.specs.Written.{closing, element_of, element_text, entry_text, extension_element, list_text, opening, range_text, ranges_text, tuple_text, tuples_text};
 ghost use Rattle.xs_model.specs.Accepted.{IsFormed};
 ghost use Rattle.xs_model.specs.Names.{words};
 ghost use Rattle.xs_model.specs.Sound.{IsSoundDecl};
@@ -153,7 +153,7 @@ fn write_table(
 ) -> Result<Vec<u8>, NoMemory>
     requires sound { AllByRecursion IsSoundDecl decls.now }
     requires declared { AllByRecursion (λ v. v < length (words decls.now)) list.now }
-    ensures { IfOk result (λ text. text.items ≡ extension_text positive (list_text (words decls.now) list.now) (tuples_text tuples.now)) }
+    ensures { IfOk result (λ text. text.items ≡ element_text (extension_element positive (list_text (words decls.now) list.now) (tuples_text tuples.now))) }
 {
     let mut out = Vec::new(alloc);
     write_head(alloc, list, positive, decls, &mut out)?;
@@ -171,7 +171,7 @@ fn write_unary(
 ) -> Result<Vec<u8>, NoMemory>
     requires sound { AllByRecursion IsSoundDecl decls.now }
     requires declared { variable < length (words decls.now) }
-    ensures { IfOk result (λ text. text.items ≡ extension_text positive (list_text (words decls.now) (variable ∷ [])) (ranges_text spans.now)) }
+    ensures { IfOk result (λ text. text.items ≡ element_text (extension_element positive (list_text (words decls.now) (variable ∷ [])) (ranges_text spans.now))) }
 {
     let mut out = Vec::new(alloc);
     write_head(alloc, &[variable], positive, decls, &mut out)?;
@@ -189,7 +189,7 @@ pub fn write_form(alloc: Global, c: &Constraint, decls: &Decls) -> Result<Vec<u8
     requires form { is_language c.now ≡ true }
     requires sound { AllByRecursion IsSoundDecl decls.now }
     requires formed { IsFormed (length (words decls.now)) c.now }
-    ensures { IfOk result (λ text. text.items ≡ form_text (words decls.now) c.now) }
+    ensures { IfOk result (λ text. text.items ≡ element_text (element_of (words decls.now) c.now)) }
 {
     match c {
         Constraint::Extension {
