@@ -25,7 +25,8 @@ pub fn is_form(name: &[u8]) -> bool
 /// The constraint of a form that is read here, where at most `left` items may still come. Else the kind of fault of the
 /// first condition that it misses, or want of memory.
 ///
-/// Asks that its name is that of such a form.
+/// Asks that its name is that of such a form. Which attributes and children its form knows is not asked here but of the
+/// element before expansion, by `xs_units`: an attribute is passed over.
 pub fn read_form(
     alloc: Global,
     c: &Concrete,

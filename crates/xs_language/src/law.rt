@@ -1,7 +1,8 @@
 ghost use Rattle.xs_language.specs.Law.{WrittenAgain};
 
-/// The law of what `write_form` writes: the texts of a constraint miss no condition, where its
-/// items are allowed, and denote the constraint again.
+/// Does nothing: its clause is the law of what `write_form` writes. The element whose text is written of a constraint of the
+/// shape of its form misses no condition but the limit on counts, nor that where the constraint's items are allowed, and
+/// denotes the constraint again.
 pub fn written_again()
     ensures { WrittenAgain }
 {}
