@@ -13,6 +13,8 @@ mod extremes;
 mod form;
 mod sorted;
 mod sum;
+#[cfg(test)]
+mod tests;
 
 pub use cardinality::holds_cardinality;
 pub use count::holds_count;
