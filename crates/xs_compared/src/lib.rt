@@ -13,6 +13,8 @@ mod form;
 mod lists;
 mod neighbours;
 mod orders;
+#[cfg(test)]
+mod tests;
 
 pub use different::{holds_different, holds_different_matrix};
 pub use expression::holds_expression;
