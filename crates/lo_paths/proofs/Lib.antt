@@ -1,8 +1,9 @@
 pub mod Targets
-pub mod Reaching
+pub mod PlaceLemmas
 pub mod Arrivals
 pub mod Weighted
 pub mod Totals
+pub mod GroupLemmas
 pub mod PathLemmas
 pub mod FormedLemmas
 pub mod LawLemmas

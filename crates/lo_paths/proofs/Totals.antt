@@ -1,21 +1,23 @@
 -- How many arrivals there are at states of which each stands once.
-use Rattle.std.proofs.Common.{◌≡◌, ℕ, suc, ◌+◌, ◌*◌, ◌≤◌, Bool, true, false, not, if◌then◌else◌, List, [], ◌∷◌, ◌++◌, length, map, refl, ap, ap₂, sym, ◌∙◌, arith}
+use Rattle.std.proofs.Common.{◌≡◌, ℕ, suc, ◌+◌, ◌*◌, ◌≤◌, Bool, true, false, not, if◌then◌else◌, Option, None, Some, List, [], ◌∷◌, ◌++◌, length, map, refl, ap, ap₂, sym, ◌∙◌, arith}
 use Rattle.std.specs.Prelude.{eqb, filter}
+use Rattle.std.specs.Option.{option_map}
 use Rattle.std.proofs.lemmas.Bool.{eqb-true}
 use Rattle.lo_emit.specs.declared.term.Term.{Term}
 use Rattle.lo_paths.specs.declared.path.Arrival.{Arrival}
 use Rattle.lo_paths.specs.Path.{arriving_one, arriving, targets_of}
+use Rattle.lo_paths.specs.Places.{place}
 use Rattle.lo_paths.proofs.Arrivals.{filter_few}
 use Rattle.lo_paths.proofs.Targets.{turned}
 use Rattle.lo_paths.proofs.Weighted.{total}
 use Rattle.xs_paths.specs.Layers.{once}
 
-abbrev one_if : Bool → ℕ
+abbrev pub one_if : Bool → ℕ
 one_if true = 1
 one_if false = 0
 
 -- how often a state stands in a list
-times : ℕ → List ℕ → ℕ
+pub times : ℕ → List ℕ → ℕ
 times p [] = 0
 times p (q ∷ qs) = one_if (eqb p q) + times p qs
 
@@ -40,7 +42,7 @@ none_left p q (r ∷ qs) e = by (eqb q r) refl (none_left p q qs e)
     by true d h = h
     by false d h = ap₂ (λ (m n : ℕ). m + n) (ap one_if (ap (λ (k : ℕ). eqb k r) e ∙ d)) h
 
-once_only : (p : ℕ) (qs : List ℕ) → times p (once qs) ≤ 1
+pub once_only : (p : ℕ) (qs : List ℕ) → times p (once qs) ≤ 1
 unfolding times
 once_only p [] = omega arith
 once_only p (q ∷ qs) = by (eqb p q) refl (once_only p qs)
@@ -48,6 +50,21 @@ once_only p (q ∷ qs) = by (eqb p q) refl (once_only p qs)
     by : (t : Bool) → eqb p q ≡ t → times p (once qs) ≤ 1 → one_if t + times p (filter (λ r. not (eqb q r)) (once qs)) ≤ 1
     by true e h = let none = none_left p q (once qs) (eqb-true p q e) in omega (arith, none)
     by false e h = let less = fewer p (λ r. not (eqb q r)) (once qs) in omega (arith, less, h)
+
+-- a state that stands nowhere, or in front
+
+pub none_of : (s : ℕ) (qs : List ℕ) → times s qs ≡ 0 → place qs s ≡ None
+unfolding times
+none_of s [] e = refl
+none_of s (q ∷ qs) e = by (eqb s q) e (none_of s qs)
+  where
+    by : (t : Bool) → one_if t + times s qs ≡ 0 → (times s qs ≡ 0 → place qs s ≡ None) → (if t then Some 0 else option_map suc (place qs s)) ≡ None
+    by true h rest = absurd (omega (arith, h))
+    by false h rest = ap (λ (o : Option ℕ). option_map suc o) (rest (omega (arith, h)))
+
+pub once_then : (s q : ℕ) (qs : List ℕ) → times s (q ∷ qs) ≤ 1 → one_if (eqb s q) + times s qs ≤ 1
+unfolding times
+once_then s q qs h = h
 
 one_long : (q : ℕ) (a : Arrival) (ts : List Term) (t : Bool) → length ((if t then a.truth ∷ [] else []) ++ ts) ≡ one_if t + length ts
 one_long q a ts true = omega arith

@@ -1,3 +1,5 @@
 pub mod Path
+pub mod Places
+pub mod Groups
 pub mod Form
 pub mod Laws

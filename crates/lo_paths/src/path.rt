@@ -1,15 +1,18 @@
 //! `regular` and `mdd`, layer by layer.
 
-ghost use Rattle.std.specs.Prelude.{◌≡◌, ◌+◌, ◌*◌, ◌≤◌, ◌<◌, ◌^◌, ◌∷◌, ◌++◌, [], length, eqb, OnOk, OnErr, IsErrOf, IfOk, IsTrue};
-ghost use Rattle.std.specs.List.{list_any};
+ghost use Rattle.std.specs.Prelude.{◌≡◌, ◌+◌, ◌*◌, ◌≤◌, ◌<◌, ◌^◌, ◌++◌, [], length, OnOk, OnErr, IsErrOf, IfOk};
 ghost use Rattle.xf_text.specs.Outside.{Rose};
 ghost use Rattle.lo_base.specs.Item.{made};
 ghost use Rattle.lo_emit.specs.Literals.{literal_of};
-ghost use Rattle.lo_paths.specs.Path.{reach, passed, taken, arrive_step, gathered, targets_of, with_one, arriving_one, arriving, reached, next_layer, final_one, final_truths, first_layer, low_layers, low_regular, low_mdd};
+ghost use Rattle.lo_paths.specs.Groups.{any_of};
+ghost use Rattle.lo_paths.specs.Path.{reach, passed, taken, arrive_step, gathered, targets_of, reached, next_layer, final_one, final_truths, first_layer, low_layers, low_regular, low_mdd};
 
+use crate::groups::{Groups, group_all};
+use crate::states::{States, states_of};
 use fz_model::Builtin;
 use lo_base::{Emit, EmitStop};
-use lo_emit::{Cell, Literal, Term, clause, literal_of, truth_of_list};
+use lo_emit::{Cell, Term, clause, truth_of_list};
+use lo_literals::{Literals, literal_of};
 use std::alloc::Global;
 use xf_num::{NoMemory, Row};
 use xs_model::Edge;
@@ -21,23 +24,22 @@ pub struct Arrival {
     pub truth: Term,
 }
 
-fn is_same(first: u32, second: u32) -> bool
-    ensures { result ≡ eqb first second }
-{
-    first == second
+/// The live states of a layer, and what tells of each whether it is reached.
+#[derive(Drop)]
+pub struct Layer {
+    pub states: States,
+    pub truths: Row<Term>,
 }
 
-/// What tells whether the state is reached, where it is one of these.
-fn reach(states: &[u32], truths: &[Term], state: u32) -> Option<Term>
-    requires { length truths.now ≡ length states.now }
-    ensures { result ≡ reach states.now truths.now state }
+/// What tells whether the state is reached, where it is live.
+fn reach(layer: &Layer, state: u32) -> Option<Term>
+    requires { length layer.now.truths ≡ length layer.now.states }
+    ensures { result ≡ reach layer.now.states layer.now.truths state }
 {
-    for i in 0..states.len() {
-        if is_same(states[i], state) {
-            return Some(truths[i]);
-        }
+    match layer.states.place(state) {
+        Some(at) => Some(layer.truths.as_slice()[at]),
+        None => None,
     }
-    None
 }
 
 /// Whether both are true; where the first is known to be, that is the second.
@@ -64,7 +66,7 @@ fn take<E: Emit>(
     alloc: Global,
     reached: Term,
     cell: Cell,
-    table: &mut Row<Literal>,
+    table: &mut Literals,
     out: &mut E,
 ) -> Result<Term, EmitStop>
     requires { E.count out.old + 1 < 2 ^ 61 }
@@ -80,13 +82,6 @@ fn take<E: Emit>(
     pass(alloc, reached, literal, out)
 }
 
-/// The live states of a layer, and what tells of each whether it is reached.
-#[derive(Drop)]
-pub struct Layer {
-    pub states: Row<u32>,
-    pub truths: Row<Term>,
-}
-
 /// Puts what a transition arrives at to the arrivals, where it leads from a live state.
 #[tactic(auto, using(lo_base::proofs::Solving::made_laws))]
 fn arrive<E: Emit>(
@@ -94,7 +89,7 @@ fn arrive<E: Emit>(
     edge: Edge,
     layer: &Layer,
     x: u32,
-    table: &mut Row<Literal>,
+    table: &mut Literals,
     arrivals: &mut Row<Arrival>,
     out: &mut E,
 ) -> Result<(), EmitStop>
@@ -109,7 +104,7 @@ fn arrive<E: Emit>(
     ensures stopped { OnErr result (E.began out.old out.new (arrive_step x layer.now (E.count out.old) (record { table = table.old; arrivals = arrivals.old }) edge).items) }
     ensures cause { IsErrOf result EmitStop.Failed → Rose (E.faults out.old) (E.faults out.new) }
 {
-    match reach(layer.states.as_slice(), layer.truths.as_slice(), edge.from) {
+    match reach(layer, edge.from) {
         Some(reached) => {
             let cell = Cell {
                 place: 0,
@@ -145,7 +140,7 @@ fn gather<E: Emit>(
     ensures stopped { OnErr result (E.began out.old out.new (gathered edges.now (E.count out.old) layer.now x).items) }
     ensures cause { IsErrOf result EmitStop.Failed → Rose (E.faults out.old) (E.faults out.new) }
 {
-    let mut table = Row::new(alloc);
+    let mut table = Literals::new(alloc);
     let mut all = Row::new(alloc);
     for edge in edges {
         arrive(alloc, *edge, layer, x, &mut table, &mut all, out)?;
@@ -153,84 +148,39 @@ fn gather<E: Emit>(
     Ok(all)
 }
 
-fn is_among(states: &[u32], state: u32) -> bool
-    ensures { result ≡ list_any (eqb state) states.now }
-{
-    for other in states {
-        if state == *other {
-            return true;
-        }
-    }
-    false
-}
-
-fn push_new(state: u32, states: &mut Row<u32>) -> Result<(), NoMemory>
-    ensures value { OnOk result (states.new ≡ with_one states.old state) }
-    ensures few { OnOk result (length states.new ≤ length states.old + 1) }
-{
-    if is_among(states.as_slice(), state) {
-        return Ok(());
-    }
-    states.push(state)?;
-    Ok(())
-}
-
-/// The states that are arrived at, in order of first target.
-#[tactic(auto, using(crate::proofs::Targets::adds_once))]
-fn targets_of(alloc: Global, arrivals: &[Arrival]) -> Result<Row<u32>, NoMemory>
-    ensures value { IfOk result (λ qs. qs ≡ targets_of arrivals.now) }
-    ensures few { IfOk result (λ qs. length qs ≤ length arrivals.now) }
-{
-    let mut targets = Row::new(alloc);
-    for arrival in arrivals {
-        push_new(arrival.state, &mut targets)?;
-    }
-    Ok(targets)
-}
-
-fn push_arriving(state: u32, arrival: Arrival, all: &mut Row<Term>) -> Result<(), NoMemory>
-    ensures { OnOk result (all.new ≡ all.old ++ arriving_one state arrival) }
-{
-    if arrival.state == state {
-        all.push(arrival.truth)?;
-    }
-    Ok(())
-}
-
-/// What tells of the transitions to the state whether they are taken.
-fn arriving(alloc: Global, state: u32, arrivals: &[Arrival]) -> Result<Row<Term>, NoMemory>
-    ensures { IfOk result (λ all. all ≡ arriving state arrivals.now) }
-{
-    let mut all = Row::new(alloc);
-    for arrival in arrivals {
-        push_arriving(state, *arrival, &mut all)?;
-    }
-    Ok(all)
-}
-
-/// What tells of each target whether it is arrived at.
-fn reached<E: Emit>(
-    alloc: Global,
-    arrivals: &[Arrival],
-    targets: &[u32],
-    out: &mut E,
-) -> Result<Row<Term>, EmitStop>
-    requires room { E.count out.old + length targets.now ≤ 2 ^ 61 }
-    ensures value { IfOk result (λ all. all ≡ (reached arrivals.now (E.count out.old) targets.now).terms) }
-    ensures even { IfOk result (λ all. length all ≡ length targets.now) }
-    ensures ok { OnOk result (E.grew out.old out.new (reached arrivals.now (E.count out.old) targets.now).items) }
-    ensures count { OnOk result (E.count out.new ≡ E.count out.old + made (reached arrivals.now (E.count out.old) targets.now).items) }
-    ensures few { OnOk result (E.count out.new ≤ E.count out.old + length targets.now) }
-    ensures stopped { OnErr result (E.began out.old out.new (reached arrivals.now (E.count out.old) targets.now).items) }
+/// What tells of each state whether it is arrived at, by what tells of the transitions there.
+fn reached<E: Emit>(alloc: Global, groups: &[Row<Term>], out: &mut E) -> Result<Row<Term>, EmitStop>
+    requires room { E.count out.old + length groups.now ≤ 2 ^ 61 }
+    ensures value { IfOk result (λ all. all ≡ (any_of (E.count out.old) groups.now).terms) }
+    ensures even { IfOk result (λ all. length all ≡ length groups.now) }
+    ensures ok { OnOk result (E.grew out.old out.new (any_of (E.count out.old) groups.now).items) }
+    ensures count { OnOk result (E.count out.new ≡ E.count out.old + made (any_of (E.count out.old) groups.now).items) }
+    ensures few { OnOk result (E.count out.new ≤ E.count out.old + length groups.now) }
+    ensures stopped { OnErr result (E.began out.old out.new (any_of (E.count out.old) groups.now).items) }
     ensures cause { IsErrOf result EmitStop.Failed → Rose (E.faults out.old) (E.faults out.new) }
 {
     let mut all = Row::new(alloc);
-    for target in targets {
-        let ways = arriving(alloc, *target, arrivals)?;
+    for ways in groups {
         let truth = truth_of_list(alloc, Builtin::ArrayBoolOr, ways.as_slice(), out)?;
         all.push(truth)?;
     }
     Ok(all)
+}
+
+/// The states that are arrived at, and what tells of each whether it is.
+fn settle<E: Emit>(alloc: Global, arrivals: &[Arrival], out: &mut E) -> Result<Layer, EmitStop>
+    requires room { E.count out.old + length arrivals.now ≤ 2 ^ 61 }
+    ensures value { IfOk result (λ next. next ≡ record { states = targets_of arrivals.now; truths = (reached arrivals.now (E.count out.old) (targets_of arrivals.now)).terms }) }
+    ensures even { IfOk result (λ next. length next.truths ≡ length next.states) }
+    ensures ok { OnOk result (E.grew out.old out.new (reached arrivals.now (E.count out.old) (targets_of arrivals.now)).items) }
+    ensures count { OnOk result (E.count out.new ≡ E.count out.old + made (reached arrivals.now (E.count out.old) (targets_of arrivals.now)).items) }
+    ensures few { OnOk result (E.count out.new ≤ E.count out.old + length arrivals.now) }
+    ensures stopped { OnErr result (E.began out.old out.new (reached arrivals.now (E.count out.old) (targets_of arrivals.now)).items) }
+    ensures cause { IsErrOf result EmitStop.Failed → Rose (E.faults out.old) (E.faults out.new) }
+{
+    let Groups { states, ways } = group_all(alloc, arrivals)?;
+    let truths = reached(alloc, ways.as_slice(), out)?;
+    Ok(Layer { states, truths })
 }
 
 /// The layer behind the next value.
@@ -253,35 +203,33 @@ fn next_layer<E: Emit>(
     ensures cause { IsErrOf result EmitStop.Failed → Rose (E.faults out.old) (E.faults out.new) }
 {
     let arrivals = gather(alloc, edges, layer, x, out)?;
-    let states = targets_of(alloc, arrivals.as_slice())?;
-    let truths = reached(alloc, arrivals.as_slice(), states.as_slice(), out)?;
-    Ok(Layer { states, truths })
+    settle(alloc, arrivals.as_slice(), out)
 }
 
 /// The start alone, which is reached.
 fn first_layer(alloc: Global, start: u32) -> Result<Layer, NoMemory>
     ensures { IfOk result (λ layer. layer ≡ first_layer start) }
 {
-    let mut states = Row::new(alloc);
+    let mut states = States::new(alloc);
     states.push(start)?;
     let mut truths = Row::new(alloc);
     truths.push(Term::Truth(true))?;
     Ok(Layer { states, truths })
 }
 
-fn push_final(finals: &[u32], state: u32, truth: Term, all: &mut Row<Term>) -> Result<(), NoMemory>
+fn push_final(finals: &States, state: u32, truth: Term, all: &mut Row<Term>) -> Result<(), NoMemory>
     ensures { OnOk result (all.new ≡ all.old ++ final_one finals.now state truth) }
 {
-    if is_among(finals, state) {
+    if finals.contains(state) {
         all.push(truth)?;
     }
     Ok(())
 }
 
-/// What tells of the final states of a layer whether they are reached.
-fn final_truths(
+/// What tells of the final states among these whether they are reached.
+fn truths_among(
     alloc: Global,
-    finals: &[u32],
+    finals: &States,
     states: &[u32],
     truths: &[Term],
 ) -> Result<Row<Term>, NoMemory>
@@ -293,6 +241,20 @@ fn final_truths(
         push_final(finals, states[i], truths[i], &mut all)?;
     }
     Ok(all)
+}
+
+/// What tells of the final states of a layer whether they are reached.
+fn final_truths(alloc: Global, finals: &[u32], layer: &Layer) -> Result<Row<Term>, NoMemory>
+    requires { length layer.now.truths ≡ length layer.now.states }
+    ensures { IfOk result (λ all. all ≡ final_truths finals.now layer.now.states layer.now.truths) }
+{
+    let known = states_of(alloc, finals)?;
+    truths_among(
+        alloc,
+        &known,
+        layer.states.as_slice(),
+        layer.truths.as_slice(),
+    )
 }
 
 /// Some final state of the last layer is reached.
@@ -307,12 +269,7 @@ fn state_finals<E: Emit>(
     ensures stopped { OnErr result (E.began out.old out.new (low_layers [] finals.now (E.count out.old) layer.now [])) }
     ensures cause { IsErrOf result EmitStop.Failed → Rose (E.faults out.old) (E.faults out.new) }
 {
-    let all = final_truths(
-        alloc,
-        finals,
-        layer.states.as_slice(),
-        layer.truths.as_slice(),
-    )?;
+    let all = final_truths(alloc, finals, layer)?;
     out.post(clause(alloc, all.as_slice(), &[])?)?;
     Ok(())
 }
