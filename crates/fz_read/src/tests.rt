@@ -271,7 +271,6 @@ const FAULTS: [(&[u8], Kind, u64); 92] = [
 ];
 
 /// Each fault stands at its place, also where a later condition is missed too.
-#[test]
 fn faults(rt: HostRuntime) -> Result<(), Fail> {
     let alloc = rt.alloc();
     for (at, (text, kind, place)) in FAULTS.iter().enumerate() {
@@ -353,7 +352,6 @@ const MODELS: [(&[u8], (usize, usize, usize)); 15] = [
 ];
 
 /// Each model has so many variables, shown arrays and calls.
-#[test]
 fn models(rt: HostRuntime) -> Result<(), Fail> {
     let alloc = rt.alloc();
     for (at, (text, expected)) in MODELS.iter().enumerate() {
@@ -447,7 +445,6 @@ fn nested(alloc: Global, levels: usize) -> Result<Vec<u8>, Fail> {
 }
 
 /// A text that is cut off, and the levels of brackets.
-#[test]
 fn ends(rt: HostRuntime) -> Result<(), Fail> {
     let alloc = rt.alloc();
     one_reading();
@@ -492,7 +489,6 @@ fn bracketed(
 }
 
 /// Of 200 levels a text is accepted, and the bracket that opens one more is refused; so it is in a predicate.
-#[test]
 fn levels(rt: HostRuntime) -> Result<(), Fail> {
     let alloc = rt.alloc();
     let most = bracketed(alloc, b"solve :: a(", 199, 199, b") satisfy;")?;
@@ -564,12 +560,26 @@ fn is_counted(alloc: Global, text: &[u8], behind: Option<u64>) -> bool {
 }
 
 /// The leaves of calls, members of arrays and members of sets are at most 4,194,304.
-#[test]
 fn leaves(rt: HostRuntime) -> Result<(), Fail> {
     let alloc = rt.alloc();
     for (at, (declared, called, behind)) in LEAVES.iter().enumerate() {
         let text = heavy(alloc, declared, called)?;
         assert!(rt; is_counted(alloc, text.as_slice(), *behind), "row {at}");
     }
+    Ok(())
+}
+
+#[test]
+fn refusals(rt: HostRuntime) -> Result<(), Fail> {
+    faults(rt)?;
+    ends(rt)?;
+    levels(rt)?;
+    Ok(())
+}
+
+#[test]
+fn readings(rt: HostRuntime) -> Result<(), Fail> {
+    models(rt)?;
+    leaves(rt)?;
     Ok(())
 }

@@ -130,12 +130,8 @@ mod tests {
         ] {
             assert_eq!(rt; stop.to_string(rt.alloc())?.as_str(), text);
         }
-        Ok(())
-    }
-
-    #[test]
-    fn want_of_memory_is_told(rt: HostRuntime) {
         assert_eq!(rt; EmitStop::from(NoMemory), EmitStop::Memory);
         assert_eq!(rt; EmitStop::from(AllocError), EmitStop::Memory);
+        Ok(())
     }
 }

@@ -29,7 +29,6 @@ fn too_deep(place: u64) -> Option<Stop> {
     }))
 }
 
-#[test]
 fn texts_with_a_tree(rt: HostRuntime) {
     let alloc = rt.alloc();
     let texts = [
@@ -53,7 +52,6 @@ fn texts_with_a_tree(rt: HostRuntime) {
     }
 }
 
-#[test]
 fn texts_that_are_cut_or_of_wrong_tokens(rt: HostRuntime) {
     let alloc = rt.alloc();
     let cases = [
@@ -92,7 +90,6 @@ fn texts_that_are_cut_or_of_wrong_tokens(rt: HostRuntime) {
     }
 }
 
-#[test]
 fn tokens_that_do_not_fit(rt: HostRuntime) {
     let alloc = rt.alloc();
     let cases = [
@@ -113,7 +110,6 @@ fn tokens_that_do_not_fit(rt: HostRuntime) {
     }
 }
 
-#[test]
 fn a_text_cut_after_each_byte(rt: HostRuntime) {
     let alloc = rt.alloc();
     let text = b"<a b=\"1\">x</a>";
@@ -137,7 +133,6 @@ fn nested(alloc: Global, open: usize, inside: &[u8], close: usize) -> Result<Vec
     Ok(text)
 }
 
-#[test]
 fn levels(rt: HostRuntime) -> Result<(), AllocError> {
     let alloc = rt.alloc();
     assert_eq!(rt; stop_of(alloc, &nested(alloc, 200, b"x", 200)?), None);
@@ -206,5 +201,15 @@ fn a_tree_is_written(rt: HostRuntime) -> Result<(), NoMemory> {
     let text = write_tree(alloc, &leaf(alloc)?)?;
     assert_eq!(rt; text.as_slice(), b"<a></a>".as_slice());
     assert_eq!(rt; stop_of(alloc, &text), None);
+    Ok(())
+}
+
+#[test]
+fn trees(rt: HostRuntime) -> Result<(), AllocError> {
+    texts_with_a_tree(rt);
+    texts_that_are_cut_or_of_wrong_tokens(rt);
+    tokens_that_do_not_fit(rt);
+    a_text_cut_after_each_byte(rt);
+    levels(rt)?;
     Ok(())
 }

@@ -13,7 +13,6 @@ fn ends(found: Option<Span>) -> Option<(i128, i128)> {
     }
 }
 
-#[test]
 fn rows_are_lists(rt: HostRuntime) -> Result<(), Fail> {
     let mut row: Ints = Row::new(rt.alloc());
     assert!(rt; row.is_empty());
@@ -27,7 +26,6 @@ fn rows_are_lists(rt: HostRuntime) -> Result<(), Fail> {
     Ok(())
 }
 
-#[test]
 fn items_are_replaced(rt: HostRuntime) -> Result<(), Fail> {
     let mut row: Ints = Row::new(rt.alloc());
     row.extend(&[5, 6, -7])?;
@@ -39,7 +37,6 @@ fn items_are_replaced(rt: HostRuntime) -> Result<(), Fail> {
     Ok(())
 }
 
-#[test]
 fn stacks_are_lists_from_their_top(rt: HostRuntime) -> Result<(), Fail> {
     let mut stack: Stack<u8> = Stack::new(rt.alloc());
     assert_eq!(rt; stack.top(), None);
@@ -53,7 +50,6 @@ fn stacks_are_lists_from_their_top(rt: HostRuntime) -> Result<(), Fail> {
     Ok(())
 }
 
-#[test]
 fn spans_of_two(rt: HostRuntime) {
     let (Some(a), Some(b)) = (Span::new(-2, 3), Span::new(4, 6)) else {
         assert!(rt; false);
@@ -73,7 +69,6 @@ fn spans_of_two(rt: HostRuntime) {
     assert_eq!(rt; a.values_at_most(5), None);
 }
 
-#[test]
 fn spans_of_one(rt: HostRuntime) {
     let cases: [(i128, i128, u32, (i128, i128), (i128, i128), (i128, i128)); 4] = [
         (-2, 3, 2, (-3, 2), (0, 3), (0, 9)),
@@ -94,7 +89,6 @@ fn spans_of_one(rt: HostRuntime) {
     }
 }
 
-#[test]
 fn quotients_and_remainders(rt: HostRuntime) {
     let (Some(a), Some(b)) = (Span::new(7, 20), Span::new(2, 3)) else {
         assert!(rt; false);
@@ -106,7 +100,6 @@ fn quotients_and_remainders(rt: HostRuntime) {
     }
 }
 
-#[test]
 fn ends_past_128_bits_are_no_span(rt: HostRuntime) {
     let (Some(all), Some(one)) = (Span::new(LEAST, GREATEST), Span::new(1, 1)) else {
         assert!(rt; false);
@@ -121,7 +114,6 @@ fn ends_past_128_bits_are_no_span(rt: HostRuntime) {
     assert_eq!(rt; ends(all.min(one)), Some((LEAST, 1)));
 }
 
-#[test]
 fn domains_are_sorted_and_merged(rt: HostRuntime) -> Result<(), Fail> {
     let mut pieces = Row::new(rt.alloc());
     for (lo, hi) in [(7, 7), (0, 3), (2, 2), (8, 8), (-5, -4)] {
@@ -148,7 +140,6 @@ fn domains_are_sorted_and_merged(rt: HostRuntime) -> Result<(), Fail> {
     Ok(())
 }
 
-#[test]
 fn no_piece_is_no_domain(rt: HostRuntime) {
     match Domain::from_pieces(rt.alloc(), &[]) {
         Ok(_) => assert!(rt; false),
@@ -156,12 +147,35 @@ fn no_piece_is_no_domain(rt: HostRuntime) {
     }
 }
 
-#[test]
 fn a_domain_of_one_range(rt: HostRuntime) -> Result<(), Fail> {
     if let Some(span) = Span::new(3, 5) {
         let domain = Domain::of(rt.alloc(), span)?;
         assert_eq!(rt; domain.least(), 3);
         assert_eq!(rt; domain.greatest(), 5);
     }
+    Ok(())
+}
+
+#[test]
+fn lists(rt: HostRuntime) -> Result<(), Fail> {
+    rows_are_lists(rt)?;
+    items_are_replaced(rt)?;
+    stacks_are_lists_from_their_top(rt)?;
+    Ok(())
+}
+
+#[test]
+fn spans(rt: HostRuntime) {
+    spans_of_two(rt);
+    spans_of_one(rt);
+    quotients_and_remainders(rt);
+    ends_past_128_bits_are_no_span(rt);
+}
+
+#[test]
+fn domains(rt: HostRuntime) -> Result<(), Fail> {
+    domains_are_sorted_and_merged(rt)?;
+    no_piece_is_no_domain(rt);
+    a_domain_of_one_range(rt)?;
     Ok(())
 }

@@ -38,7 +38,6 @@ fn shelf(alloc: Global, fails: &[i128]) -> Result<MemShelf, Fail> {
     Ok(MemShelf::new(alloc, files, numbers(alloc, fails)?))
 }
 
-#[test]
 fn files_are_read_to_their_end(rt: HostRuntime) -> Result<(), Fail> {
     let alloc = rt.alloc();
     let cases: [(&str, &[u8]); 2] = [("a", b"first"), ("b", b"")];
@@ -52,7 +51,6 @@ fn files_are_read_to_their_end(rt: HostRuntime) -> Result<(), Fail> {
     Ok(())
 }
 
-#[test]
 fn calls_that_fail_are_told(rt: HostRuntime) -> Result<(), Fail> {
     let alloc = rt.alloc();
     let cases: [(&str, i128); 4] = [("a", 1), ("a", 2), ("a", 3), ("c", 9)];
@@ -66,7 +64,6 @@ fn calls_that_fail_are_told(rt: HostRuntime) -> Result<(), Fail> {
     Ok(())
 }
 
-#[test]
 fn texts_are_written_whole(rt: HostRuntime) -> Result<(), Fail> {
     let alloc = rt.alloc();
     let mut out = MemSink::new(alloc, numbers(alloc, &[])?, 2);
@@ -76,7 +73,6 @@ fn texts_are_written_whole(rt: HostRuntime) -> Result<(), Fail> {
     Ok(())
 }
 
-#[test]
 fn a_failed_write_leaves_a_prefix(rt: HostRuntime) -> Result<(), Fail> {
     let alloc = rt.alloc();
     let mut out = MemSink::new(alloc, numbers(alloc, &[3])?, 2);
@@ -87,7 +83,6 @@ fn a_failed_write_leaves_a_prefix(rt: HostRuntime) -> Result<(), Fail> {
     Ok(())
 }
 
-#[test]
 fn numbers_in_texts(rt: HostRuntime) {
     let cases: [(&[u8], i128, usize); 6] = [
         (b"0", 0, 1),
@@ -102,7 +97,6 @@ fn numbers_in_texts(rt: HostRuntime) {
     }
 }
 
-#[test]
 fn texts_that_are_no_numbers(rt: HostRuntime) {
     let cases: [(&[u8], NumberStop); 6] = [
         (b"", NumberStop::NotNumber),
@@ -123,7 +117,6 @@ fn texts_that_are_no_numbers(rt: HostRuntime) {
     }
 }
 
-#[test]
 fn kinds_are_numbered(rt: HostRuntime) {
     let kinds = [
         (Kind::Long, 1),
@@ -145,4 +138,25 @@ fn kinds_are_numbered(rt: HostRuntime) {
     for (kind, number) in kinds {
         assert_eq!(rt; kind.number(), number);
     }
+}
+
+#[test]
+fn files(rt: HostRuntime) -> Result<(), Fail> {
+    files_are_read_to_their_end(rt)?;
+    calls_that_fail_are_told(rt)?;
+    Ok(())
+}
+
+#[test]
+fn texts(rt: HostRuntime) -> Result<(), Fail> {
+    texts_are_written_whole(rt)?;
+    a_failed_write_leaves_a_prefix(rt)?;
+    Ok(())
+}
+
+#[test]
+fn numbers(rt: HostRuntime) {
+    numbers_in_texts(rt);
+    texts_that_are_no_numbers(rt);
+    kinds_are_numbered(rt);
 }

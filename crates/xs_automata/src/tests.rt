@@ -124,7 +124,6 @@ fn edge(from: u32, value: i128, to: u32) -> Edge {
 }
 
 // States are numbered as they are mentioned: by the transitions, then as the start, then as final states.
-#[test]
 fn reads_automata(rt: HostRuntime) {
     let rows: [([&[u8]; 4], &[Edge], u32, &[u32]); 4] = [
         (
@@ -166,7 +165,6 @@ fn reads_automata(rt: HostRuntime) {
     }
 }
 
-#[test]
 fn reads_diagrams(rt: HostRuntime) {
     let rows: [(&[u8], &[u8], u32, u32); 3] = [
         (b"x[]", b"(r,0,a)(r,1,b)(a,1,t)(b,0,t)", 0, 3),
@@ -184,7 +182,6 @@ fn reads_diagrams(rt: HostRuntime) {
     }
 }
 
-#[test]
 fn refuses_automata(rt: HostRuntime) {
     let rows: [([&[u8]; 4], Kind); 17] = [
         ([b"x[]", b"( s,0,t)", b"s", b"t"], Kind::Shape),
@@ -229,7 +226,6 @@ fn refuses_automata(rt: HostRuntime) {
     }
 }
 
-#[test]
 fn refuses_diagrams(rt: HostRuntime) {
     let rows: [(&[u8], &[u8], Kind); 9] = [
         (b"x[]", b"", Kind::Shape),
@@ -276,7 +272,6 @@ fn room(alloc: Global, edges: &[Edge], start: u32, finals: &[u32]) -> Result<Scr
 }
 
 // The states s, p, q and f are 0, 1, 2 and 3.
-#[test]
 fn accepts_words(rt: HostRuntime) -> Result<(), Fail> {
     let edges = [edge(0, 0, 1), edge(0, 0, 2), edge(1, 1, 3), edge(2, 1, 3)];
     let rows: [([i128; 2], u32, bool); 5] = [
@@ -296,7 +291,6 @@ fn accepts_words(rt: HostRuntime) -> Result<(), Fail> {
 }
 
 // The root is 0, and the leaf 3.
-#[test]
 fn leads_to_the_leaf(rt: HostRuntime) -> Result<(), Fail> {
     let edges = [edge(0, 0, 1), edge(0, 0, 2), edge(1, 1, 3), edge(2, 1, 3)];
     let rows: [([i128; 2], bool); 3] = [([0, 1], true), ([0, 0], false), ([1, 1], false)];
@@ -305,5 +299,24 @@ fn leads_to_the_leaf(rt: HostRuntime) -> Result<(), Fail> {
         let leads = holds_mdd(&[0, 1], &edges, 0, 3, &values, &mut scratch);
         assert_eq!(rt; leads, want);
     }
+    Ok(())
+}
+
+#[test]
+fn reads(rt: HostRuntime) {
+    reads_automata(rt);
+    reads_diagrams(rt);
+}
+
+#[test]
+fn refuses(rt: HostRuntime) {
+    refuses_automata(rt);
+    refuses_diagrams(rt);
+}
+
+#[test]
+fn tests(rt: HostRuntime) -> Result<(), Fail> {
+    accepts_words(rt)?;
+    leads_to_the_leaf(rt)?;
     Ok(())
 }

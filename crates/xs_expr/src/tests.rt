@@ -21,7 +21,6 @@ use xs_model::{Cells, Decl, Decls, Expr, Op};
 /// 2^126 - 1, the greatest magnitude.
 const MOST: i128 = (1 << 126) - 1;
 
-#[test]
 fn depths(rt: HostRuntime) {
     let mut text = [b'('; 201];
     assert!(rt; is_too_deep(&text));
@@ -35,7 +34,6 @@ fn depths(rt: HostRuntime) {
     assert!(rt; !is_too_deep(b""));
 }
 
-#[test]
 fn operators(rt: HostRuntime) {
     let rows: [(&[u8], Option<Op>); 6] = [
         (b"add", Some(Op::Add)),
@@ -50,7 +48,6 @@ fn operators(rt: HostRuntime) {
     }
 }
 
-#[test]
 fn tokens(rt: HostRuntime) {
     let expected: [&[u8]; 6] = [b"le", b"(", b"x[1]", b",", b"-2", b")"];
     let mut rest: &[u8] = b" le ( x[1],-2)\n";
@@ -66,7 +63,6 @@ fn tokens(rt: HostRuntime) {
     assert!(rt; next_token(rest).is_none());
 }
 
-#[test]
 fn exponents(rt: HostRuntime) {
     let rows: [(&[u8], bool); 8] = [
         (b"1", true),
@@ -90,7 +86,6 @@ fn pair(alloc: Global, op: Op, first: Expr, second: Expr) -> Result<Expr, Fail> 
     Ok(Expr::Node(op, operands))
 }
 
-#[test]
 fn shapes(rt: HostRuntime) -> Result<(), Fail> {
     let alloc = rt.alloc();
     let variable = Expr::Var(0);
@@ -253,7 +248,6 @@ fn valued(alloc: Global, text: &[u8]) -> Result<Option<i128>, NoMemory> {
 // Bounds of numbers, then of truth values, also where the operands' bounds leave only one of the two; faults of
 // operands, and of magnitude, where 2^100 and 2^126 - 1 stand in some texts. Some have a second fault, in a later
 // operand or in the node. Last, bounds up to the greatest magnitude.
-#[test]
 fn bounds_and_faults(rt: HostRuntime) -> Result<(), Fail> {
     let cases: [(&[u8], Result<(i128, i128), Kind>); 75] = [
         (b"-7", Ok((-7, -7))),
@@ -374,7 +368,6 @@ fn bounds_and_faults(rt: HostRuntime) -> Result<(), Fail> {
     Ok(())
 }
 
-#[test]
 fn values(rt: HostRuntime) -> Result<(), Fail> {
     let cases: [(&[u8], i128); 64] = [
         (b"-7", -7),
@@ -512,7 +505,6 @@ fn written(alloc: Global, text: &[u8], decls: &Decls) -> Result<Option<Vec<u8>>,
     }
 }
 
-#[test]
 fn texts(rt: HostRuntime) -> Result<(), Fail> {
     let cases: [(&[u8], &[u8]); 5] = [
         (b" -12 ", b"-12"),
@@ -534,5 +526,23 @@ fn texts(rt: HostRuntime) -> Result<(), Fail> {
             None => assert!(rt; false),
         }
     }
+    Ok(())
+}
+
+#[test]
+fn notation(rt: HostRuntime) -> Result<(), Fail> {
+    depths(rt);
+    operators(rt);
+    tokens(rt);
+    exponents(rt);
+    shapes(rt)?;
+    texts(rt)?;
+    Ok(())
+}
+
+#[test]
+fn meaning(rt: HostRuntime) -> Result<(), Fail> {
+    bounds_and_faults(rt)?;
+    values(rt)?;
     Ok(())
 }

@@ -72,7 +72,6 @@ fn names(alloc: Global) -> Result<Names, NameStop>
     Ok(names)
 }
 
-#[test]
 fn lists_of_variables(rt: HostRuntime) -> Result<(), Fail> {
     let Ok(names) = names(rt.alloc()) else {
         panic!(rt; "want of memory");
@@ -96,7 +95,6 @@ fn lists_of_variables(rt: HostRuntime) -> Result<(), Fail> {
     Ok(())
 }
 
-#[test]
 fn lists_of_terms(rt: HostRuntime) -> Result<(), Fail> {
     let Ok(names) = names(rt.alloc()) else {
         panic!(rt; "want of memory");
@@ -120,7 +118,6 @@ fn lists_of_terms(rt: HostRuntime) -> Result<(), Fail> {
     Ok(())
 }
 
-#[test]
 fn refused_lists_of_terms(rt: HostRuntime) {
     let Ok(names) = names(rt.alloc()) else {
         panic!(rt; "want of memory");
@@ -143,4 +140,12 @@ fn refused_lists_of_terms(rt: HostRuntime) {
             Err(stop) => assert_eq!(rt; stop, FieldStop::Refused(want)),
         }
     }
+}
+
+#[test]
+fn lists(rt: HostRuntime) -> Result<(), Fail> {
+    lists_of_variables(rt)?;
+    lists_of_terms(rt)?;
+    refused_lists_of_terms(rt);
+    Ok(())
 }

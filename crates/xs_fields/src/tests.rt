@@ -9,7 +9,6 @@ use xs_model::Names;
 /// 2^126, the least magnitude that is too great.
 const GREAT: &[u8] = b"85070591730234615865843651857942052864";
 
-#[test]
 fn lists_of_integers(rt: HostRuntime) {
     let names = Names::new(rt.alloc());
     let accepted: [(&[u8], &[i128]); 7] = [
@@ -32,7 +31,6 @@ fn lists_of_integers(rt: HostRuntime) {
     }
 }
 
-#[test]
 fn refused_lists_of_integers(rt: HostRuntime) {
     let names = Names::new(rt.alloc());
     let refused: [(&[u8], Kind); 18] = [
@@ -66,7 +64,6 @@ fn refused_lists_of_integers(rt: HostRuntime) {
     }
 }
 
-#[test]
 fn domain_texts(rt: HostRuntime) {
     let accepted: [(&[u8], &[(i128, i128)]); 4] = [
         (b" ", &[]),
@@ -118,7 +115,6 @@ fn domain_texts(rt: HostRuntime) {
     }
 }
 
-#[test]
 fn sizes_of_arrays(rt: HostRuntime) {
     let accepted: [(&[u8], &[i128]); 3] = [
         (b"[2][3]", &[2, 3]),
@@ -157,7 +153,6 @@ fn sizes_of_arrays(rt: HostRuntime) {
     }
 }
 
-#[test]
 fn single_words(rt: HostRuntime) {
     assert_eq!(rt; read_integer(b"-012"), Ok(-12));
     assert_eq!(rt; read_integer(b"1 "), Err(Condition::Spelling));
@@ -181,7 +176,6 @@ fn single_words(rt: HostRuntime) {
     }
 }
 
-#[test]
 fn words_and_conditions(rt: HostRuntime) {
     assert!(rt; is_blank(b" \t\r\n"));
     assert!(rt; !is_blank(b" \x0c"));
@@ -202,7 +196,6 @@ fn words_and_conditions(rt: HostRuntime) {
     );
 }
 
-#[test]
 fn variable_words(rt: HostRuntime) {
     let right: [(&[u8], usize, bool); 5] = [
         (b"x", 0, true),
@@ -242,4 +235,19 @@ fn variable_words(rt: HostRuntime) {
         Ok(vars) => assert!(rt; vars.is_empty()),
         Err(_) => assert!(rt; false),
     }
+}
+
+#[test]
+fn integers(rt: HostRuntime) {
+    lists_of_integers(rt);
+    refused_lists_of_integers(rt);
+    domain_texts(rt);
+    sizes_of_arrays(rt);
+}
+
+#[test]
+fn words(rt: HostRuntime) {
+    single_words(rt);
+    words_and_conditions(rt);
+    variable_words(rt);
 }

@@ -26,7 +26,6 @@ fn fault(alloc: Global, text: &[u8]) -> Option<Fault> {
 }
 
 // Each text with the numbers of declarations, constraints and items.
-#[test]
 fn reads_instances(rt: HostRuntime) -> Result<(), Fail> {
     let rows: [(&[u8], usize, usize, usize); 9] = [
         (
@@ -90,7 +89,6 @@ fn reads_instances(rt: HostRuntime) -> Result<(), Fail> {
 }
 
 // Faults that stand before any declaration.
-#[test]
 fn refuses_roots(rt: HostRuntime) -> Result<(), Fail> {
     let rows: [(&[u8], Kind, u64); 17] = [
         (b"", Kind::Syntax, 0),
@@ -154,7 +152,6 @@ fn refuses_roots(rt: HostRuntime) -> Result<(), Fail> {
 }
 
 // Faults of sections and constraints.
-#[test]
 fn refuses_sections(rt: HostRuntime) -> Result<(), Fail> {
     let rows: [(&[u8], Kind, u64); 22] = [
         (
@@ -275,7 +272,6 @@ fn refuses_sections(rt: HostRuntime) -> Result<(), Fail> {
 }
 
 // Of two faults, that of the unit that comes first in the text.
-#[test]
 fn refuses_by_the_first_unit(rt: HostRuntime) -> Result<(), Fail> {
     let rows: [(&[u8], Kind, u64); 6] = [
         (
@@ -316,7 +312,6 @@ fn refuses_by_the_first_unit(rt: HostRuntime) -> Result<(), Fail> {
 }
 
 // Blocks, groups and slides: what is read of them, and the first fault.
-#[test]
 fn reads_containers(rt: HostRuntime) -> Result<(), Fail> {
     let rows: [(&[u8], usize, usize); 3] = [
         (
@@ -375,5 +370,20 @@ fn reads_containers(rt: HostRuntime) -> Result<(), Fail> {
     for (text, kind, place) in rows {
         assert_eq!(rt; fault(rt.alloc(), text), Some(Fault { kind, place }));
     }
+    Ok(())
+}
+
+#[test]
+fn reads(rt: HostRuntime) -> Result<(), Fail> {
+    reads_instances(rt)?;
+    reads_containers(rt)?;
+    Ok(())
+}
+
+#[test]
+fn refuses(rt: HostRuntime) -> Result<(), Fail> {
+    refuses_roots(rt)?;
+    refuses_sections(rt)?;
+    refuses_by_the_first_unit(rt)?;
     Ok(())
 }

@@ -68,7 +68,6 @@ fn names(alloc: Global) -> Result<Names, NameStop>
     Ok(names)
 }
 
-#[test]
 fn finds_variables(rt: HostRuntime) {
     let Ok(names) = names(rt.alloc()) else {
         panic!(rt; "want of memory");
@@ -102,7 +101,6 @@ fn finds_variables(rt: HostRuntime) {
     assert_eq!(rt; names.find(b"y"), None);
 }
 
-#[test]
 fn finds_arrays_and_cells(rt: HostRuntime) {
     let Ok(mut names) = names(rt.alloc()) else {
         panic!(rt; "want of memory");
@@ -129,7 +127,6 @@ fn finds_arrays_and_cells(rt: HostRuntime) {
     assert_eq!(rt; names.variables(), 4);
 }
 
-#[test]
 fn writes_words(rt: HostRuntime) {
     let (Ok(v), Ok(x)) = (variable(rt.alloc()), array(rt.alloc())) else {
         panic!(rt; "want of memory");
@@ -170,4 +167,11 @@ fn spans_run_from_the_least_to_the_greatest_value(rt: HostRuntime) -> Result<(),
         assert_eq!(rt; (span.lo(), span.hi()), (*lo, *hi));
     }
     Ok(())
+}
+
+#[test]
+fn names(rt: HostRuntime) {
+    finds_variables(rt);
+    finds_arrays_and_cells(rt);
+    writes_words(rt);
 }

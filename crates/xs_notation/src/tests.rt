@@ -142,7 +142,6 @@ fn missed(alloc: Global, text: &[u8]) -> Result<Option<Condition>, Fail> {
     }
 }
 
-#[test]
 fn words(rt: HostRuntime) -> Result<(), Fail> {
     let cases: [(&[u8], &[u8]); 8] = [
         (b"7", b"7"),
@@ -160,7 +159,6 @@ fn words(rt: HostRuntime) -> Result<(), Fail> {
     Ok(())
 }
 
-#[test]
 fn calls(rt: HostRuntime) -> Result<(), Fail> {
     let cases: [(&[u8], &[u8]); 9] = [
         (b" add ( add , 1,x[0][0] ) ", b"add(v0;1;v1;)"),
@@ -179,7 +177,6 @@ fn calls(rt: HostRuntime) -> Result<(), Fail> {
     Ok(())
 }
 
-#[test]
 fn misspelt_calls(rt: HostRuntime) -> Result<(), Fail> {
     let cases: [&[u8]; 16] = [
         b"",
@@ -205,7 +202,6 @@ fn misspelt_calls(rt: HostRuntime) -> Result<(), Fail> {
     Ok(())
 }
 
-#[test]
 fn misplaced_operands(rt: HostRuntime) -> Result<(), Fail> {
     let cases: [&[u8]; 15] = [
         b"add(add)",
@@ -230,7 +226,6 @@ fn misplaced_operands(rt: HostRuntime) -> Result<(), Fail> {
     Ok(())
 }
 
-#[test]
 fn misspelt_words(rt: HostRuntime) -> Result<(), Fail> {
     let cases: [&[u8]; 17] = [
         b"pow(add,0)",
@@ -257,7 +252,6 @@ fn misspelt_words(rt: HostRuntime) -> Result<(), Fail> {
     Ok(())
 }
 
-#[test]
 fn great_integers(rt: HostRuntime) -> Result<(), Fail> {
     let cases: [&[u8]; 3] = [
         b"85070591730234615865843651857942052864",
@@ -270,7 +264,6 @@ fn great_integers(rt: HostRuntime) -> Result<(), Fail> {
     Ok(())
 }
 
-#[test]
 fn names_that_denote_none(rt: HostRuntime) -> Result<(), Fail> {
     let cases: [&[u8]; 11] = [
         b"y",
@@ -292,14 +285,12 @@ fn names_that_denote_none(rt: HostRuntime) -> Result<(), Fail> {
 }
 
 // Each condition is asked of the whole text before the next one.
-#[test]
 fn spelling_is_asked_first(rt: HostRuntime) -> Result<(), Fail> {
     let text = b"add(z,85070591730234615865843651857942052864,1..2)";
     assert_eq!(rt; missed(rt.alloc(), text)?, Some(Condition::Spelling));
     Ok(())
 }
 
-#[test]
 fn depths(rt: HostRuntime) -> Result<(), Fail> {
     let alloc = rt.alloc();
     let names = Names::new(alloc);
@@ -331,7 +322,6 @@ fn depths(rt: HostRuntime) -> Result<(), Fail> {
     Ok(())
 }
 
-#[test]
 fn nodes(rt: HostRuntime) {
     let cases: [(&[u8], u64); 6] = [
         (b" 7 ", 1),
@@ -345,4 +335,24 @@ fn nodes(rt: HostRuntime) {
         assert_eq!(rt; count_nodes(text, want), Some(want));
         assert_eq!(rt; count_nodes(text, want - 1), None);
     }
+}
+
+#[test]
+fn expressions(rt: HostRuntime) -> Result<(), Fail> {
+    words(rt)?;
+    calls(rt)?;
+    nodes(rt);
+    depths(rt)?;
+    Ok(())
+}
+
+#[test]
+fn refusals(rt: HostRuntime) -> Result<(), Fail> {
+    misspelt_calls(rt)?;
+    misplaced_operands(rt)?;
+    misspelt_words(rt)?;
+    great_integers(rt)?;
+    names_that_denote_none(rt)?;
+    spelling_is_asked_first(rt)?;
+    Ok(())
 }

@@ -18,7 +18,6 @@ fn counts(alloc: Global, text: &[u8]) -> Result<(usize, u64, u64), Stop> {
     }
 }
 
-#[test]
 fn variables_declared(rt: HostRuntime) -> Result<(), Fail> {
     let cases: [(&[u8], (usize, u64, u64)); 5] = [
         (b"<variables/>", (0, 0, 0)),
@@ -42,7 +41,6 @@ fn variables_declared(rt: HostRuntime) -> Result<(), Fail> {
     Ok(())
 }
 
-#[test]
 fn arrays_declared(rt: HostRuntime) -> Result<(), Fail> {
     let cases: [(&[u8], (usize, u64, u64)); 3] = [
         (
@@ -64,7 +62,6 @@ fn arrays_declared(rt: HostRuntime) -> Result<(), Fail> {
     Ok(())
 }
 
-#[test]
 fn variables_refused(rt: HostRuntime) -> Result<(), Fail> {
     let cases: [(&[u8], Kind, u64); 12] = [
         // The container itself comes first.
@@ -137,12 +134,25 @@ fn variable(alloc: Global, text: &[u8], word: &[u8]) -> Result<Option<u32>, Stop
     }
 }
 
-#[test]
 fn names_declared(rt: HostRuntime) -> Result<(), Fail> {
     let text = b"<variables><var id=\"x\">0</var><var id=\"y\">1 3</var></variables>".as_slice();
     let cases: [(&[u8], Option<u32>); 3] = [(b"x", Some(0)), (b"y", Some(1)), (b"z", None)];
     for (word, want) in cases {
         assert_eq!(rt; variable(rt.alloc(), text, word), Ok(want));
     }
+    Ok(())
+}
+
+#[test]
+fn declared(rt: HostRuntime) -> Result<(), Fail> {
+    variables_declared(rt)?;
+    arrays_declared(rt)?;
+    Ok(())
+}
+
+#[test]
+fn refused(rt: HostRuntime) -> Result<(), Fail> {
+    variables_refused(rt)?;
+    names_declared(rt)?;
     Ok(())
 }
