@@ -1,6 +1,7 @@
 use crate::{denotes_law, one_reading, read_model, sound_reading};
 use fz_model::{Goal, Model};
 use std::alloc::Global;
+use std::process::Abort;
 use std::test::Fail;
 use xf_text::{Fault, Kind, Stop};
 
@@ -271,8 +272,7 @@ const FAULTS: [(&[u8], Kind, u64); 92] = [
 ];
 
 /// Each fault stands at its place, also where a later condition is missed too.
-fn faults(rt: HostRuntime) -> Result<(), Fail> {
-    let alloc = rt.alloc();
+fn faults(rt: &impl Abort, alloc: Global) -> Result<(), Fail> {
     for (at, (text, kind, place)) in FAULTS.iter().enumerate() {
         let expected = Fault {
             kind: *kind,
@@ -352,8 +352,7 @@ const MODELS: [(&[u8], (usize, usize, usize)); 15] = [
 ];
 
 /// Each model has so many variables, shown arrays and calls.
-fn models(rt: HostRuntime) -> Result<(), Fail> {
-    let alloc = rt.alloc();
+fn models(rt: &impl Abort, alloc: Global) -> Result<(), Fail> {
     for (at, (text, expected)) in MODELS.iter().enumerate() {
         match read_model(alloc, text, None) {
             Ok(model) => assert!(rt; counts(&model) == *expected, "row {at}"),
@@ -445,8 +444,7 @@ fn nested(alloc: Global, levels: usize) -> Result<Vec<u8>, Fail> {
 }
 
 /// A text that is cut off, and the levels of brackets.
-fn ends(rt: HostRuntime) -> Result<(), Fail> {
-    let alloc = rt.alloc();
+fn ends(rt: &impl Abort, alloc: Global) -> Result<(), Fail> {
     one_reading();
     denotes_law();
     sound_reading();
@@ -489,8 +487,7 @@ fn bracketed(
 }
 
 /// Of 200 levels a text is accepted, and the bracket that opens one more is refused; so it is in a predicate.
-fn levels(rt: HostRuntime) -> Result<(), Fail> {
-    let alloc = rt.alloc();
+fn levels(rt: &impl Abort, alloc: Global) -> Result<(), Fail> {
     let most = bracketed(alloc, b"solve :: a(", 199, 199, b") satisfy;")?;
     assert!(rt; read_model(alloc, most.as_slice(), None).is_ok());
     let more = bracketed(alloc, b"solve :: a(", 200, 200, b") satisfy;")?;
@@ -560,8 +557,7 @@ fn is_counted(alloc: Global, text: &[u8], behind: Option<u64>) -> bool {
 }
 
 /// The leaves of calls, members of arrays and members of sets are at most 4,194,304.
-fn leaves(rt: HostRuntime) -> Result<(), Fail> {
-    let alloc = rt.alloc();
+fn leaves(rt: &impl Abort, alloc: Global) -> Result<(), Fail> {
     for (at, (declared, called, behind)) in LEAVES.iter().enumerate() {
         let text = heavy(alloc, declared, called)?;
         assert!(rt; is_counted(alloc, text.as_slice(), *behind), "row {at}");
@@ -571,15 +567,15 @@ fn leaves(rt: HostRuntime) -> Result<(), Fail> {
 
 #[test]
 fn refusals(rt: HostRuntime) -> Result<(), Fail> {
-    faults(rt)?;
-    ends(rt)?;
-    levels(rt)?;
+    faults(&rt, rt.alloc())?;
+    ends(&rt, rt.alloc())?;
+    levels(&rt, rt.alloc())?;
     Ok(())
 }
 
 #[test]
 fn readings(rt: HostRuntime) -> Result<(), Fail> {
-    models(rt)?;
-    leaves(rt)?;
+    models(&rt, rt.alloc())?;
+    leaves(&rt, rt.alloc())?;
     Ok(())
 }

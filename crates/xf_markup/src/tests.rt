@@ -4,6 +4,7 @@ ghost use Rattle.xf_markup.specs.Written.{is_spelt};
 use crate::tag::copied;
 use crate::{Node, Piece, read_tree, write_tree};
 use std::alloc::{AllocError, Global};
+use std::process::Abort;
 use xf_num::{NoMemory, Row};
 use xf_text::{Fault, Kind, Stop};
 
@@ -29,8 +30,7 @@ fn too_deep(place: u64) -> Option<Stop> {
     }))
 }
 
-fn texts_with_a_tree(rt: HostRuntime) {
-    let alloc = rt.alloc();
+fn texts_with_a_tree(rt: &impl Abort, alloc: Global) {
     let texts = [
         "<a/>",
         "<a></a>",
@@ -52,8 +52,7 @@ fn texts_with_a_tree(rt: HostRuntime) {
     }
 }
 
-fn texts_that_are_cut_or_of_wrong_tokens(rt: HostRuntime) {
-    let alloc = rt.alloc();
+fn texts_that_are_cut_or_of_wrong_tokens(rt: &impl Abort, alloc: Global) {
     let cases = [
         ("", 0),
         (" ", 1),
@@ -90,8 +89,7 @@ fn texts_that_are_cut_or_of_wrong_tokens(rt: HostRuntime) {
     }
 }
 
-fn tokens_that_do_not_fit(rt: HostRuntime) {
-    let alloc = rt.alloc();
+fn tokens_that_do_not_fit(rt: &impl Abort, alloc: Global) {
     let cases = [
         ("<a></b>", 3),
         ("</a>", 0),
@@ -110,8 +108,7 @@ fn tokens_that_do_not_fit(rt: HostRuntime) {
     }
 }
 
-fn a_text_cut_after_each_byte(rt: HostRuntime) {
-    let alloc = rt.alloc();
+fn a_text_cut_after_each_byte(rt: &impl Abort, alloc: Global) {
     let text = b"<a b=\"1\">x</a>";
     let places = [0, 0, 0, 0, 0, 0, 0, 0, 0, 9, 10, 10, 10, 10];
     for (len, place) in places.iter().enumerate() {
@@ -133,8 +130,7 @@ fn nested(alloc: Global, open: usize, inside: &[u8], close: usize) -> Result<Vec
     Ok(text)
 }
 
-fn levels(rt: HostRuntime) -> Result<(), AllocError> {
-    let alloc = rt.alloc();
+fn levels(rt: &impl Abort, alloc: Global) -> Result<(), AllocError> {
     assert_eq!(rt; stop_of(alloc, &nested(alloc, 200, b"x", 200)?), None);
     assert_eq!(rt;
         stop_of(alloc, &nested(alloc, 199, b"<b/><b/>", 199)?),
@@ -206,10 +202,10 @@ fn a_tree_is_written(rt: HostRuntime) -> Result<(), NoMemory> {
 
 #[test]
 fn trees(rt: HostRuntime) -> Result<(), AllocError> {
-    texts_with_a_tree(rt);
-    texts_that_are_cut_or_of_wrong_tokens(rt);
-    tokens_that_do_not_fit(rt);
-    a_text_cut_after_each_byte(rt);
-    levels(rt)?;
+    texts_with_a_tree(&rt, rt.alloc());
+    texts_that_are_cut_or_of_wrong_tokens(&rt, rt.alloc());
+    tokens_that_do_not_fit(&rt, rt.alloc());
+    a_text_cut_after_each_byte(&rt, rt.alloc());
+    levels(&rt, rt.alloc())?;
     Ok(())
 }

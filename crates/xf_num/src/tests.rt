@@ -1,4 +1,6 @@
 use crate::{Domain, DomainFault, Ints, Row, Span, Stack};
+use std::alloc::Global;
+use std::process::Abort;
 use std::test::Fail;
 
 const GREATEST: i128 = i128::MAX;
@@ -13,21 +15,21 @@ fn ends(found: Option<Span>) -> Option<(i128, i128)> {
     }
 }
 
-fn rows_are_lists(rt: HostRuntime) -> Result<(), Fail> {
-    let mut row: Ints = Row::new(rt.alloc());
+fn rows_are_lists(rt: &impl Abort, alloc: Global) -> Result<(), Fail> {
+    let mut row: Ints = Row::new(alloc);
     assert!(rt; row.is_empty());
     row.push(5)?;
     row.extend(&[6, -7])?;
     assert_eq!(rt; row.as_slice(), [5, 6, -7].as_slice());
-    let copy = row.copy(rt.alloc())?;
+    let copy = row.copy(alloc)?;
     row.truncate(1);
     assert_eq!(rt; row.as_slice(), [5].as_slice());
     assert_eq!(rt; copy.len(), 3);
     Ok(())
 }
 
-fn items_are_replaced(rt: HostRuntime) -> Result<(), Fail> {
-    let mut row: Ints = Row::new(rt.alloc());
+fn items_are_replaced(rt: &impl Abort, alloc: Global) -> Result<(), Fail> {
+    let mut row: Ints = Row::new(alloc);
     row.extend(&[5, 6, -7])?;
     assert_eq!(rt; row.replace(1, 8), 6);
     assert_eq!(rt; row.as_slice(), [5, 8, -7].as_slice());
@@ -37,8 +39,8 @@ fn items_are_replaced(rt: HostRuntime) -> Result<(), Fail> {
     Ok(())
 }
 
-fn stacks_are_lists_from_their_top(rt: HostRuntime) -> Result<(), Fail> {
-    let mut stack: Stack<u8> = Stack::new(rt.alloc());
+fn stacks_are_lists_from_their_top(rt: &impl Abort, alloc: Global) -> Result<(), Fail> {
+    let mut stack: Stack<u8> = Stack::new(alloc);
     assert_eq!(rt; stack.top(), None);
     stack.push(1)?;
     stack.push(2)?;
@@ -50,7 +52,7 @@ fn stacks_are_lists_from_their_top(rt: HostRuntime) -> Result<(), Fail> {
     Ok(())
 }
 
-fn spans_of_two(rt: HostRuntime) {
+fn spans_of_two(rt: &impl Abort) {
     let (Some(a), Some(b)) = (Span::new(-2, 3), Span::new(4, 6)) else {
         assert!(rt; false);
         return;
@@ -69,7 +71,7 @@ fn spans_of_two(rt: HostRuntime) {
     assert_eq!(rt; a.values_at_most(5), None);
 }
 
-fn spans_of_one(rt: HostRuntime) {
+fn spans_of_one(rt: &impl Abort) {
     let cases: [(i128, i128, u32, (i128, i128), (i128, i128), (i128, i128)); 4] = [
         (-2, 3, 2, (-3, 2), (0, 3), (0, 9)),
         (-3, -2, 3, (2, 3), (2, 3), (-27, -8)),
@@ -89,7 +91,7 @@ fn spans_of_one(rt: HostRuntime) {
     }
 }
 
-fn quotients_and_remainders(rt: HostRuntime) {
+fn quotients_and_remainders(rt: &impl Abort) {
     let (Some(a), Some(b)) = (Span::new(7, 20), Span::new(2, 3)) else {
         assert!(rt; false);
         return;
@@ -100,7 +102,7 @@ fn quotients_and_remainders(rt: HostRuntime) {
     }
 }
 
-fn ends_past_128_bits_are_no_span(rt: HostRuntime) {
+fn ends_past_128_bits_are_no_span(rt: &impl Abort) {
     let (Some(all), Some(one)) = (Span::new(LEAST, GREATEST), Span::new(1, 1)) else {
         assert!(rt; false);
         return;
@@ -114,14 +116,14 @@ fn ends_past_128_bits_are_no_span(rt: HostRuntime) {
     assert_eq!(rt; ends(all.min(one)), Some((LEAST, 1)));
 }
 
-fn domains_are_sorted_and_merged(rt: HostRuntime) -> Result<(), Fail> {
-    let mut pieces = Row::new(rt.alloc());
+fn domains_are_sorted_and_merged(rt: &impl Abort, alloc: Global) -> Result<(), Fail> {
+    let mut pieces = Row::new(alloc);
     for (lo, hi) in [(7, 7), (0, 3), (2, 2), (8, 8), (-5, -4)] {
         if let Some(piece) = Span::new(lo, hi) {
             pieces.push(piece)?;
         }
     }
-    match Domain::from_pieces(rt.alloc(), pieces.as_slice()) {
+    match Domain::from_pieces(alloc, pieces.as_slice()) {
         Ok(domain) => {
             assert_eq!(rt; domain.ranges(), 3);
             assert_eq!(rt; domain.least(), -5);
@@ -130,7 +132,7 @@ fn domains_are_sorted_and_merged(rt: HostRuntime) -> Result<(), Fail> {
             assert_eq!(rt; domain.contains(6), false);
             assert_eq!(rt; domain.values_at_most(8), Some(8));
             assert_eq!(rt; domain.values_at_most(7), None);
-            let copy = domain.copy(rt.alloc())?;
+            let copy = domain.copy(alloc)?;
             let first = copy.range(0);
             assert_eq!(rt; (first.lo(), first.hi()), (-5, -4));
             assert_eq!(rt; copy.as_slice().len(), 3);
@@ -140,16 +142,16 @@ fn domains_are_sorted_and_merged(rt: HostRuntime) -> Result<(), Fail> {
     Ok(())
 }
 
-fn no_piece_is_no_domain(rt: HostRuntime) {
-    match Domain::from_pieces(rt.alloc(), &[]) {
+fn no_piece_is_no_domain(rt: &impl Abort, alloc: Global) {
+    match Domain::from_pieces(alloc, &[]) {
         Ok(_) => assert!(rt; false),
         Err(fault) => assert_eq!(rt; fault, DomainFault::Empty),
     }
 }
 
-fn a_domain_of_one_range(rt: HostRuntime) -> Result<(), Fail> {
+fn a_domain_of_one_range(rt: &impl Abort, alloc: Global) -> Result<(), Fail> {
     if let Some(span) = Span::new(3, 5) {
-        let domain = Domain::of(rt.alloc(), span)?;
+        let domain = Domain::of(alloc, span)?;
         assert_eq!(rt; domain.least(), 3);
         assert_eq!(rt; domain.greatest(), 5);
     }
@@ -158,24 +160,24 @@ fn a_domain_of_one_range(rt: HostRuntime) -> Result<(), Fail> {
 
 #[test]
 fn lists(rt: HostRuntime) -> Result<(), Fail> {
-    rows_are_lists(rt)?;
-    items_are_replaced(rt)?;
-    stacks_are_lists_from_their_top(rt)?;
+    rows_are_lists(&rt, rt.alloc())?;
+    items_are_replaced(&rt, rt.alloc())?;
+    stacks_are_lists_from_their_top(&rt, rt.alloc())?;
     Ok(())
 }
 
 #[test]
 fn spans(rt: HostRuntime) {
-    spans_of_two(rt);
-    spans_of_one(rt);
-    quotients_and_remainders(rt);
-    ends_past_128_bits_are_no_span(rt);
+    spans_of_two(&rt);
+    spans_of_one(&rt);
+    quotients_and_remainders(&rt);
+    ends_past_128_bits_are_no_span(&rt);
 }
 
 #[test]
 fn domains(rt: HostRuntime) -> Result<(), Fail> {
-    domains_are_sorted_and_merged(rt)?;
-    no_piece_is_no_domain(rt);
-    a_domain_of_one_range(rt)?;
+    domains_are_sorted_and_merged(&rt, rt.alloc())?;
+    no_piece_is_no_domain(&rt, rt.alloc());
+    a_domain_of_one_range(&rt, rt.alloc())?;
     Ok(())
 }

@@ -5,6 +5,7 @@ use crate::{
     read_file, read_int, write_whole,
 };
 use std::alloc::Global;
+use std::process::Abort;
 use std::test::Fail;
 use xf_num::{Ints, Row, Text};
 
@@ -38,8 +39,7 @@ fn shelf(alloc: Global, fails: &[i128]) -> Result<MemShelf, Fail> {
     Ok(MemShelf::new(alloc, files, numbers(alloc, fails)?))
 }
 
-fn files_are_read_to_their_end(rt: HostRuntime) -> Result<(), Fail> {
-    let alloc = rt.alloc();
+fn files_are_read_to_their_end(rt: &impl Abort, alloc: Global) -> Result<(), Fail> {
     let cases: [(&str, &[u8]); 2] = [("a", b"first"), ("b", b"")];
     for (name, bytes) in cases {
         let mut files = shelf(alloc, &[])?;
@@ -51,8 +51,7 @@ fn files_are_read_to_their_end(rt: HostRuntime) -> Result<(), Fail> {
     Ok(())
 }
 
-fn calls_that_fail_are_told(rt: HostRuntime) -> Result<(), Fail> {
-    let alloc = rt.alloc();
+fn calls_that_fail_are_told(rt: &impl Abort, alloc: Global) -> Result<(), Fail> {
     let cases: [(&str, i128); 4] = [("a", 1), ("a", 2), ("a", 3), ("c", 9)];
     for (name, fails) in cases {
         let mut files = shelf(alloc, &[fails])?;
@@ -64,8 +63,7 @@ fn calls_that_fail_are_told(rt: HostRuntime) -> Result<(), Fail> {
     Ok(())
 }
 
-fn texts_are_written_whole(rt: HostRuntime) -> Result<(), Fail> {
-    let alloc = rt.alloc();
+fn texts_are_written_whole(rt: &impl Abort, alloc: Global) -> Result<(), Fail> {
     let mut out = MemSink::new(alloc, numbers(alloc, &[])?, 2);
     assert_eq!(rt; write_whole(&mut out, b"12345"), Ok(()));
     assert_eq!(rt; write_whole(&mut out, b""), Ok(()));
@@ -73,8 +71,7 @@ fn texts_are_written_whole(rt: HostRuntime) -> Result<(), Fail> {
     Ok(())
 }
 
-fn a_failed_write_leaves_a_prefix(rt: HostRuntime) -> Result<(), Fail> {
-    let alloc = rt.alloc();
+fn a_failed_write_leaves_a_prefix(rt: &impl Abort, alloc: Global) -> Result<(), Fail> {
     let mut out = MemSink::new(alloc, numbers(alloc, &[3])?, 2);
     assert_eq!(rt; write_whole(&mut out, b"12345"), Err(Failed));
     assert_eq!(rt; out.bytes(), b"1234".as_slice());
@@ -83,7 +80,7 @@ fn a_failed_write_leaves_a_prefix(rt: HostRuntime) -> Result<(), Fail> {
     Ok(())
 }
 
-fn numbers_in_texts(rt: HostRuntime) {
+fn numbers_in_texts(rt: &impl Abort) {
     let cases: [(&[u8], i128, usize); 6] = [
         (b"0", 0, 1),
         (b"007;", 7, 3),
@@ -97,7 +94,7 @@ fn numbers_in_texts(rt: HostRuntime) {
     }
 }
 
-fn texts_that_are_no_numbers(rt: HostRuntime) {
+fn texts_that_are_no_numbers(rt: &impl Abort) {
     let cases: [(&[u8], NumberStop); 6] = [
         (b"", NumberStop::NotNumber),
         (b"-", NumberStop::NotNumber),
@@ -117,7 +114,7 @@ fn texts_that_are_no_numbers(rt: HostRuntime) {
     }
 }
 
-fn kinds_are_numbered(rt: HostRuntime) {
+fn kinds_are_numbered(rt: &impl Abort) {
     let kinds = [
         (Kind::Long, 1),
         (Kind::Syntax, 2),
@@ -142,21 +139,21 @@ fn kinds_are_numbered(rt: HostRuntime) {
 
 #[test]
 fn files(rt: HostRuntime) -> Result<(), Fail> {
-    files_are_read_to_their_end(rt)?;
-    calls_that_fail_are_told(rt)?;
+    files_are_read_to_their_end(&rt, rt.alloc())?;
+    calls_that_fail_are_told(&rt, rt.alloc())?;
     Ok(())
 }
 
 #[test]
 fn texts(rt: HostRuntime) -> Result<(), Fail> {
-    texts_are_written_whole(rt)?;
-    a_failed_write_leaves_a_prefix(rt)?;
+    texts_are_written_whole(&rt, rt.alloc())?;
+    a_failed_write_leaves_a_prefix(&rt, rt.alloc())?;
     Ok(())
 }
 
 #[test]
 fn numbers(rt: HostRuntime) {
-    numbers_in_texts(rt);
-    texts_that_are_no_numbers(rt);
-    kinds_are_numbered(rt);
+    numbers_in_texts(&rt);
+    texts_that_are_no_numbers(&rt);
+    kinds_are_numbered(&rt);
 }

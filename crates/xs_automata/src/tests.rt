@@ -8,6 +8,7 @@ ghost use Rattle.xs_model.specs.declared.decl.Decl.{Decl};
 
 use crate::{holds_mdd, holds_regular, read_mdd, read_regular};
 use std::alloc::Global;
+use std::process::Abort;
 use std::test::Fail;
 use xf_num::{Domain, NoMemory, Row, Span, Text};
 use xf_text::{FieldStop, Kind};
@@ -124,7 +125,7 @@ fn edge(from: u32, value: i128, to: u32) -> Edge {
 }
 
 // States are numbered as they are mentioned: by the transitions, then as the start, then as final states.
-fn reads_automata(rt: HostRuntime) {
+fn reads_automata(rt: &impl Abort, alloc: Global) {
     let rows: [([&[u8]; 4], &[Edge], u32, &[u32]); 4] = [
         (
             [b"x[]", b" (s,0,p)(s,0,q) (p,1,f)(q,1,f)", b" s ", b" f "],
@@ -147,7 +148,7 @@ fn reads_automata(rt: HostRuntime) {
         ),
     ];
     for (texts, want, first, last) in rows {
-        match automaton(rt.alloc(), texts, 17) {
+        match automaton(alloc, texts, 17) {
             Ok(
                 Constraint::Regular {
                     edges,
@@ -165,14 +166,14 @@ fn reads_automata(rt: HostRuntime) {
     }
 }
 
-fn reads_diagrams(rt: HostRuntime) {
+fn reads_diagrams(rt: &impl Abort, alloc: Global) {
     let rows: [(&[u8], &[u8], u32, u32); 3] = [
         (b"x[]", b"(r,0,a)(r,1,b)(a,1,t)(b,0,t)", 0, 3),
         (b"", b"(a,0,t)(r,1,a)", 2, 1),
         (b"x[0]", b"(r,0,t)(r,1,t)", 0, 1),
     ];
     for (list, transitions, first, last) in rows {
-        match diagram(rt.alloc(), list, transitions, 15) {
+        match diagram(alloc, list, transitions, 15) {
             Ok(Constraint::Mdd { root, leaf, .. }) => {
                 assert_eq!(rt; root, first);
                 assert_eq!(rt; leaf, last);
@@ -182,7 +183,7 @@ fn reads_diagrams(rt: HostRuntime) {
     }
 }
 
-fn refuses_automata(rt: HostRuntime) {
+fn refuses_automata(rt: &impl Abort, alloc: Global) {
     let rows: [([&[u8]; 4], Kind); 17] = [
         ([b"x[]", b"( s,0,t)", b"s", b"t"], Kind::Shape),
         ([b"x[]", b"(s,0,t", b"s", b"t"], Kind::Shape),
@@ -219,14 +220,14 @@ fn refuses_automata(rt: HostRuntime) {
         ([b"x[]", b"", b"s", b"s s s s s"], Kind::Many),
     ];
     for (texts, want) in rows {
-        match automaton(rt.alloc(), texts, 8) {
+        match automaton(alloc, texts, 8) {
             Ok(_) => panic!(rt; "not refused"),
             Err(stop) => assert_eq!(rt; stop, FieldStop::Refused(want)),
         }
     }
 }
 
-fn refuses_diagrams(rt: HostRuntime) {
+fn refuses_diagrams(rt: &impl Abort, alloc: Global) {
     let rows: [(&[u8], &[u8], Kind); 9] = [
         (b"x[]", b"", Kind::Shape),
         (b"x[]", b"(r,0,t)(t,0,r)", Kind::Shape),
@@ -243,7 +244,7 @@ fn refuses_diagrams(rt: HostRuntime) {
         (b"y", b"(r,0 ,t)", Kind::Shape),
     ];
     for (list, transitions, want) in rows {
-        match diagram(rt.alloc(), list, transitions, 9) {
+        match diagram(alloc, list, transitions, 9) {
             Ok(_) => panic!(rt; "not refused"),
             Err(stop) => assert_eq!(rt; stop, FieldStop::Refused(want)),
         }
@@ -272,7 +273,7 @@ fn room(alloc: Global, edges: &[Edge], start: u32, finals: &[u32]) -> Result<Scr
 }
 
 // The states s, p, q and f are 0, 1, 2 and 3.
-fn accepts_words(rt: HostRuntime) -> Result<(), Fail> {
+fn accepts_words(rt: &impl Abort, alloc: Global) -> Result<(), Fail> {
     let edges = [edge(0, 0, 1), edge(0, 0, 2), edge(1, 1, 3), edge(2, 1, 3)];
     let rows: [([i128; 2], u32, bool); 5] = [
         ([0, 1], 3, true),
@@ -283,7 +284,7 @@ fn accepts_words(rt: HostRuntime) -> Result<(), Fail> {
     ];
     for (values, last, want) in rows {
         let finals = [last];
-        let mut scratch = room(rt.alloc(), &edges, 0, &finals)?;
+        let mut scratch = room(alloc, &edges, 0, &finals)?;
         let holds = holds_regular(&[0, 1], &edges, 0, &finals, &values, &mut scratch);
         assert_eq!(rt; holds, want);
     }
@@ -291,11 +292,11 @@ fn accepts_words(rt: HostRuntime) -> Result<(), Fail> {
 }
 
 // The root is 0, and the leaf 3.
-fn leads_to_the_leaf(rt: HostRuntime) -> Result<(), Fail> {
+fn leads_to_the_leaf(rt: &impl Abort, alloc: Global) -> Result<(), Fail> {
     let edges = [edge(0, 0, 1), edge(0, 0, 2), edge(1, 1, 3), edge(2, 1, 3)];
     let rows: [([i128; 2], bool); 3] = [([0, 1], true), ([0, 0], false), ([1, 1], false)];
     for (values, want) in rows {
-        let mut scratch = room(rt.alloc(), &edges, 0, &[3])?;
+        let mut scratch = room(alloc, &edges, 0, &[3])?;
         let leads = holds_mdd(&[0, 1], &edges, 0, 3, &values, &mut scratch);
         assert_eq!(rt; leads, want);
     }
@@ -304,19 +305,19 @@ fn leads_to_the_leaf(rt: HostRuntime) -> Result<(), Fail> {
 
 #[test]
 fn reads(rt: HostRuntime) {
-    reads_automata(rt);
-    reads_diagrams(rt);
+    reads_automata(&rt, rt.alloc());
+    reads_diagrams(&rt, rt.alloc());
 }
 
 #[test]
 fn refuses(rt: HostRuntime) {
-    refuses_automata(rt);
-    refuses_diagrams(rt);
+    refuses_automata(&rt, rt.alloc());
+    refuses_diagrams(&rt, rt.alloc());
 }
 
 #[test]
 fn tests(rt: HostRuntime) -> Result<(), Fail> {
-    accepts_words(rt)?;
-    leads_to_the_leaf(rt)?;
+    accepts_words(&rt, rt.alloc())?;
+    leads_to_the_leaf(&rt, rt.alloc())?;
     Ok(())
 }

@@ -12,6 +12,7 @@ use crate::{
     bounds, is_exponent_word, is_shaped, is_too_deep, next_token, operator, value, write_expr,
 };
 use std::alloc::Global;
+use std::process::Abort;
 use std::str;
 use std::test::Fail;
 use xf_num::{Domain, NoMemory, Row, Span, Stack, Text};
@@ -21,7 +22,7 @@ use xs_model::{Cells, Decl, Decls, Expr, Op};
 /// 2^126 - 1, the greatest magnitude.
 const MOST: i128 = (1 << 126) - 1;
 
-fn depths(rt: HostRuntime) {
+fn depths(rt: &impl Abort) {
     let mut text = [b'('; 201];
     assert!(rt; is_too_deep(&text));
     assert!(rt; !is_too_deep(&text[..200]));
@@ -34,7 +35,7 @@ fn depths(rt: HostRuntime) {
     assert!(rt; !is_too_deep(b""));
 }
 
-fn operators(rt: HostRuntime) {
+fn operators(rt: &impl Abort) {
     let rows: [(&[u8], Option<Op>); 6] = [
         (b"add", Some(Op::Add)),
         (b"notin", Some(Op::NotIn)),
@@ -48,7 +49,7 @@ fn operators(rt: HostRuntime) {
     }
 }
 
-fn tokens(rt: HostRuntime) {
+fn tokens(rt: &impl Abort) {
     let expected: [&[u8]; 6] = [b"le", b"(", b"x[1]", b",", b"-2", b")"];
     let mut rest: &[u8] = b" le ( x[1],-2)\n";
     for token in expected {
@@ -63,7 +64,7 @@ fn tokens(rt: HostRuntime) {
     assert!(rt; next_token(rest).is_none());
 }
 
-fn exponents(rt: HostRuntime) {
+fn exponents(rt: &impl Abort) {
     let rows: [(&[u8], bool); 8] = [
         (b"1", true),
         (b"64", true),
@@ -86,8 +87,7 @@ fn pair(alloc: Global, op: Op, first: Expr, second: Expr) -> Result<Expr, Fail> 
     Ok(Expr::Node(op, operands))
 }
 
-fn shapes(rt: HostRuntime) -> Result<(), Fail> {
-    let alloc = rt.alloc();
+fn shapes(rt: &impl Abort, alloc: Global) -> Result<(), Fail> {
     let variable = Expr::Var(0);
     assert!(rt; is_shaped(&variable));
     let power = pair(alloc, Op::Pow, Expr::Var(0), Expr::Int(64))?;
@@ -248,7 +248,7 @@ fn valued(alloc: Global, text: &[u8]) -> Result<Option<i128>, NoMemory> {
 // Bounds of numbers, then of truth values, also where the operands' bounds leave only one of the two; faults of
 // operands, and of magnitude, where 2^100 and 2^126 - 1 stand in some texts. Some have a second fault, in a later
 // operand or in the node. Last, bounds up to the greatest magnitude.
-fn bounds_and_faults(rt: HostRuntime) -> Result<(), Fail> {
+fn bounds_and_faults(rt: &impl Abort, alloc: Global) -> Result<(), Fail> {
     let cases: [(&[u8], Result<(i128, i128), Kind>); 75] = [
         (b"-7", Ok((-7, -7))),
         (b"x", Ok((-2, 3))),
@@ -363,12 +363,12 @@ fn bounds_and_faults(rt: HostRuntime) -> Result<(), Fail> {
         ),
     ];
     for (text, wanted) in cases {
-        assert_eq!(rt; bounded(rt.alloc(), text)?, wanted);
+        assert_eq!(rt; bounded(alloc, text)?, wanted);
     }
     Ok(())
 }
 
-fn values(rt: HostRuntime) -> Result<(), Fail> {
+fn values(rt: &impl Abort, alloc: Global) -> Result<(), Fail> {
     let cases: [(&[u8], i128); 64] = [
         (b"-7", -7),
         (b"x", -2),
@@ -436,7 +436,7 @@ fn values(rt: HostRuntime) -> Result<(), Fail> {
         (b"if(1,x,y)", -2),
     ];
     for (text, wanted) in cases {
-        assert_eq!(rt; valued(rt.alloc(), text)?, Some(wanted));
+        assert_eq!(rt; valued(alloc, text)?, Some(wanted));
     }
     Ok(())
 }
@@ -505,7 +505,7 @@ fn written(alloc: Global, text: &[u8], decls: &Decls) -> Result<Option<Vec<u8>>,
     }
 }
 
-fn texts(rt: HostRuntime) -> Result<(), Fail> {
+fn texts(rt: &impl Abort, alloc: Global) -> Result<(), Fail> {
     let cases: [(&[u8], &[u8]); 5] = [
         (b" -12 ", b"-12"),
         (b" z ", b"c[2]"),
@@ -519,9 +519,9 @@ fn texts(rt: HostRuntime) -> Result<(), Fail> {
             b"imp(xor(le(v,c[0]),not(ne(v,1)),0),eq(pow(v,2),dist(c[2],-1),c[2]))",
         ),
     ];
-    let decls = decls(rt.alloc())?;
+    let decls = decls(alloc)?;
     for (text, wanted) in cases {
-        match written(rt.alloc(), text, &decls)? {
+        match written(alloc, text, &decls)? {
             Some(text) => assert!(rt; text.as_slice() == wanted),
             None => assert!(rt; false),
         }
@@ -531,18 +531,18 @@ fn texts(rt: HostRuntime) -> Result<(), Fail> {
 
 #[test]
 fn notation(rt: HostRuntime) -> Result<(), Fail> {
-    depths(rt);
-    operators(rt);
-    tokens(rt);
-    exponents(rt);
-    shapes(rt)?;
-    texts(rt)?;
+    depths(&rt);
+    operators(&rt);
+    tokens(&rt);
+    exponents(&rt);
+    shapes(&rt, rt.alloc())?;
+    texts(&rt, rt.alloc())?;
     Ok(())
 }
 
 #[test]
 fn meaning(rt: HostRuntime) -> Result<(), Fail> {
-    bounds_and_faults(rt)?;
-    values(rt)?;
+    bounds_and_faults(&rt, rt.alloc())?;
+    values(&rt, rt.alloc())?;
     Ok(())
 }

@@ -6,6 +6,7 @@ ghost use Rattle.xs_model.specs.declared.decl.Decl.{Decl};
 
 use crate::{read_terms, read_vars};
 use std::alloc::Global;
+use std::process::Abort;
 use std::test::Fail;
 use xf_num::{Domain, NoMemory, Row, Span, Text};
 use xf_text::{FieldStop, Kind};
@@ -72,8 +73,8 @@ fn names(alloc: Global) -> Result<Names, NameStop>
     Ok(names)
 }
 
-fn lists_of_variables(rt: HostRuntime) -> Result<(), Fail> {
-    let Ok(names) = names(rt.alloc()) else {
+fn lists_of_variables(rt: &impl Abort, alloc: Global) -> Result<(), Fail> {
+    let Ok(names) = names(alloc) else {
         panic!(rt; "want of memory");
     };
     let rows: [(&[u8], &[u32]); 8] = [
@@ -87,7 +88,7 @@ fn lists_of_variables(rt: HostRuntime) -> Result<(), Fail> {
         (b"", &[]),
     ];
     for (text, want) in rows {
-        match read_vars(rt.alloc(), text, &names, 3) {
+        match read_vars(alloc, text, &names, 3) {
             Ok(vars) => assert_eq!(rt; vars.as_slice(), want),
             Err(_) => assert!(rt; false),
         }
@@ -95,8 +96,8 @@ fn lists_of_variables(rt: HostRuntime) -> Result<(), Fail> {
     Ok(())
 }
 
-fn lists_of_terms(rt: HostRuntime) -> Result<(), Fail> {
-    let Ok(names) = names(rt.alloc()) else {
+fn lists_of_terms(rt: &impl Abort, alloc: Global) -> Result<(), Fail> {
+    let Ok(names) = names(alloc) else {
         panic!(rt; "want of memory");
     };
     let rows: [(&[u8], &[Term]); 5] = [
@@ -110,7 +111,7 @@ fn lists_of_terms(rt: HostRuntime) -> Result<(), Fail> {
         (b" ", &[]),
     ];
     for (text, want) in rows {
-        match read_terms(rt.alloc(), text, &names, 4) {
+        match read_terms(alloc, text, &names, 4) {
             Ok(terms) => assert_eq!(rt; terms.as_slice(), want),
             Err(_) => assert!(rt; false),
         }
@@ -118,8 +119,8 @@ fn lists_of_terms(rt: HostRuntime) -> Result<(), Fail> {
     Ok(())
 }
 
-fn refused_lists_of_terms(rt: HostRuntime) {
-    let Ok(names) = names(rt.alloc()) else {
+fn refused_lists_of_terms(rt: &impl Abort, alloc: Global) {
+    let Ok(names) = names(alloc) else {
         panic!(rt; "want of memory");
     };
     let rows: [(&[u8], Kind); 10] = [
@@ -135,7 +136,7 @@ fn refused_lists_of_terms(rt: HostRuntime) {
         (b"x[][] v v", Kind::Many),
     ];
     for (text, want) in rows {
-        match read_terms(rt.alloc(), text, &names, 4) {
+        match read_terms(alloc, text, &names, 4) {
             Ok(_) => assert!(rt; false),
             Err(stop) => assert_eq!(rt; stop, FieldStop::Refused(want)),
         }
@@ -144,8 +145,8 @@ fn refused_lists_of_terms(rt: HostRuntime) {
 
 #[test]
 fn lists(rt: HostRuntime) -> Result<(), Fail> {
-    lists_of_variables(rt)?;
-    lists_of_terms(rt)?;
-    refused_lists_of_terms(rt);
+    lists_of_variables(&rt, rt.alloc())?;
+    lists_of_terms(&rt, rt.alloc())?;
+    refused_lists_of_terms(&rt, rt.alloc());
     Ok(())
 }

@@ -3,14 +3,16 @@ use crate::{
     judge_sizes, next_word, read_identifier, read_integer, read_ints, read_pieces, read_sizes,
     read_vars, read_word,
 };
+use std::alloc::Global;
+use std::process::Abort;
 use xf_text::{FieldStop, Kind};
 use xs_model::Names;
 
 /// 2^126, the least magnitude that is too great.
 const GREAT: &[u8] = b"85070591730234615865843651857942052864";
 
-fn lists_of_integers(rt: HostRuntime) {
-    let names = Names::new(rt.alloc());
+fn lists_of_integers(rt: &impl Abort, alloc: Global) {
+    let names = Names::new(alloc);
     let accepted: [(&[u8], &[i128]); 7] = [
         (b"", &[]),
         (b" \t\r\n", &[]),
@@ -24,15 +26,15 @@ fn lists_of_integers(rt: HostRuntime) {
         ),
     ];
     for (text, want) in accepted {
-        match read_ints(rt.alloc(), text, &names, 4) {
+        match read_ints(alloc, text, &names, 4) {
             Ok(ints) => assert_eq!(rt; ints.as_slice(), want),
             Err(_) => assert!(rt; false),
         }
     }
 }
 
-fn refused_lists_of_integers(rt: HostRuntime) {
-    let names = Names::new(rt.alloc());
+fn refused_lists_of_integers(rt: &impl Abort, alloc: Global) {
+    let names = Names::new(alloc);
     let refused: [(&[u8], Kind); 18] = [
         (b"1x0", Kind::Shape),
         (b"1x-1", Kind::Shape),
@@ -57,14 +59,14 @@ fn refused_lists_of_integers(rt: HostRuntime) {
         (b"1 2 3 4 5", Kind::Many),
     ];
     for (text, want) in refused {
-        match read_ints(rt.alloc(), text, &names, 4) {
+        match read_ints(alloc, text, &names, 4) {
             Ok(_) => assert!(rt; false),
             Err(stop) => assert_eq!(rt; stop, FieldStop::Refused(want)),
         }
     }
 }
 
-fn domain_texts(rt: HostRuntime) {
+fn domain_texts(rt: &impl Abort, alloc: Global) {
     let accepted: [(&[u8], &[(i128, i128)]); 4] = [
         (b" ", &[]),
         (b"3 1..2", &[(3, 3), (1, 2)]),
@@ -72,7 +74,7 @@ fn domain_texts(rt: HostRuntime) {
         (b"1..1 1", &[(1, 1), (1, 1)]),
     ];
     for (text, want) in accepted {
-        match read_pieces(rt.alloc(), text) {
+        match read_pieces(alloc, text) {
             Ok(pieces) => {
                 assert_eq!(rt; pieces.len(), want.len());
                 for (piece, (low, high)) in pieces.as_slice().iter().zip(want) {
@@ -108,21 +110,21 @@ fn domain_texts(rt: HostRuntime) {
     ];
     for (text, want) in refused {
         assert_eq!(rt; judge_pieces(text), Some(want));
-        match read_pieces(rt.alloc(), text) {
+        match read_pieces(alloc, text) {
             Ok(_) => assert!(rt; false),
             Err(stop) => assert_eq!(rt; stop, FieldStop::Refused(want.kind())),
         }
     }
 }
 
-fn sizes_of_arrays(rt: HostRuntime) {
+fn sizes_of_arrays(rt: &impl Abort, alloc: Global) {
     let accepted: [(&[u8], &[i128]); 3] = [
         (b"[2][3]", &[2, 3]),
         (b"[07]", &[7]),
         (b"[0][-1]", &[0, -1]),
     ];
     for (text, want) in accepted {
-        match read_sizes(rt.alloc(), text) {
+        match read_sizes(alloc, text) {
             Ok(sizes) => assert_eq!(rt; sizes.as_slice(), want),
             Err(_) => assert!(rt; false),
         }
@@ -146,14 +148,14 @@ fn sizes_of_arrays(rt: HostRuntime) {
     ];
     for (text, want) in refused {
         assert_eq!(rt; judge_sizes(text), Some(want));
-        match read_sizes(rt.alloc(), text) {
+        match read_sizes(alloc, text) {
             Ok(_) => assert!(rt; false),
             Err(stop) => assert_eq!(rt; stop, FieldStop::Refused(want.kind())),
         }
     }
 }
 
-fn single_words(rt: HostRuntime) {
+fn single_words(rt: &impl Abort, alloc: Global) {
     assert_eq!(rt; read_integer(b"-012"), Ok(-12));
     assert_eq!(rt; read_integer(b"1 "), Err(Condition::Spelling));
     assert_eq!(rt; read_integer(GREAT), Err(Condition::Magnitude));
@@ -169,14 +171,14 @@ fn single_words(rt: HostRuntime) {
     for (text, want) in cases {
         assert_eq!(rt; is_identifier(text), want);
         assert_eq!(rt; judge_identifier(text).is_none(), want);
-        match read_identifier(rt.alloc(), text) {
+        match read_identifier(alloc, text) {
             Ok(name) => assert_eq!(rt; name.as_slice(), text),
             Err(stop) => assert_eq!(rt; stop, FieldStop::Refused(Kind::Shape)),
         }
     }
 }
 
-fn words_and_conditions(rt: HostRuntime) {
+fn words_and_conditions(rt: &impl Abort) {
     assert!(rt; is_blank(b" \t\r\n"));
     assert!(rt; !is_blank(b" \x0c"));
     match next_word(b"\n ab c") {
@@ -196,7 +198,7 @@ fn words_and_conditions(rt: HostRuntime) {
     );
 }
 
-fn variable_words(rt: HostRuntime) {
+fn variable_words(rt: &impl Abort, alloc: Global) {
     let right: [(&[u8], usize, bool); 5] = [
         (b"x", 0, true),
         (b"x_1[+3][0]", 2, true),
@@ -205,7 +207,7 @@ fn variable_words(rt: HostRuntime) {
         (b"x[-1..-1]", 1, false),
     ];
     for (text, brackets, is_direct) in right {
-        match read_word(rt.alloc(), text) {
+        match read_word(alloc, text) {
             Ok(word) => {
                 assert_eq!(rt; word.brackets.len(), brackets);
                 assert_eq!(rt; word.is_direct(), is_direct);
@@ -213,7 +215,7 @@ fn variable_words(rt: HostRuntime) {
             Err(_) => assert!(rt; false),
         }
     }
-    let names = Names::new(rt.alloc());
+    let names = Names::new(alloc);
     let refused: [(&[u8], Kind); 9] = [
         (b"x", Kind::Name),
         (b"x[1] y[]", Kind::Name),
@@ -226,12 +228,12 @@ fn variable_words(rt: HostRuntime) {
         (b"x[85070591730234615865843651857942052864]", Kind::Range),
     ];
     for (text, want) in refused {
-        match read_vars(rt.alloc(), text, &names, 9) {
+        match read_vars(alloc, text, &names, 9) {
             Ok(_) => assert!(rt; false),
             Err(stop) => assert_eq!(rt; stop, FieldStop::Refused(want)),
         }
     }
-    match read_vars(rt.alloc(), b" ", &names, 0) {
+    match read_vars(alloc, b" ", &names, 0) {
         Ok(vars) => assert!(rt; vars.is_empty()),
         Err(_) => assert!(rt; false),
     }
@@ -239,15 +241,15 @@ fn variable_words(rt: HostRuntime) {
 
 #[test]
 fn integers(rt: HostRuntime) {
-    lists_of_integers(rt);
-    refused_lists_of_integers(rt);
-    domain_texts(rt);
-    sizes_of_arrays(rt);
+    lists_of_integers(&rt, rt.alloc());
+    refused_lists_of_integers(&rt, rt.alloc());
+    domain_texts(&rt, rt.alloc());
+    sizes_of_arrays(&rt, rt.alloc());
 }
 
 #[test]
 fn words(rt: HostRuntime) {
-    single_words(rt);
-    words_and_conditions(rt);
-    variable_words(rt);
+    single_words(&rt, rt.alloc());
+    words_and_conditions(&rt);
+    variable_words(&rt, rt.alloc());
 }

@@ -1,5 +1,6 @@
 use crate::{one_reading, read_instance};
 use std::alloc::Global;
+use std::process::Abort;
 use std::test::Fail;
 use xf_text::{Fault, Kind, Stop};
 use xs_model::{Constraint, Instance};
@@ -26,7 +27,7 @@ fn fault(alloc: Global, text: &[u8]) -> Option<Fault> {
 }
 
 // Each text with the numbers of declarations, constraints and items.
-fn reads_instances(rt: HostRuntime) -> Result<(), Fail> {
+fn reads_instances(rt: &impl Abort, alloc: Global) -> Result<(), Fail> {
     let rows: [(&[u8], usize, usize, usize); 9] = [
         (
             b"<instance><variables><var id=\"x\"> 0..1 </var></variables><constraints><intension> eq(x,1) </intension><allDifferent> x </allDifferent><intension><function> x </function></intension></constraints></instance>",
@@ -79,7 +80,7 @@ fn reads_instances(rt: HostRuntime) -> Result<(), Fail> {
         ),
     ];
     for (text, decls, constraints, count) in rows {
-        let instance = read_instance(rt.alloc(), text)?;
+        let instance = read_instance(alloc, text)?;
         assert_eq!(rt; instance.decls.len(), decls);
         assert_eq!(rt; instance.constraints.len(), constraints);
         assert_eq!(rt; items(&instance), count);
@@ -89,7 +90,7 @@ fn reads_instances(rt: HostRuntime) -> Result<(), Fail> {
 }
 
 // Faults that stand before any declaration.
-fn refuses_roots(rt: HostRuntime) -> Result<(), Fail> {
+fn refuses_roots(rt: &impl Abort, alloc: Global) -> Result<(), Fail> {
     let rows: [(&[u8], Kind, u64); 17] = [
         (b"", Kind::Syntax, 0),
         (b"<instance><variables/><stretch/>", Kind::Syntax, 32),
@@ -146,13 +147,13 @@ fn refuses_roots(rt: HostRuntime) -> Result<(), Fail> {
         (b"<instance type=\"csp\"/>", Kind::Unknown, 0),
     ];
     for (text, kind, place) in rows {
-        assert_eq!(rt; fault(rt.alloc(), text), Some(Fault { kind, place }));
+        assert_eq!(rt; fault(alloc, text), Some(Fault { kind, place }));
     }
     Ok(())
 }
 
 // Faults of sections and constraints.
-fn refuses_sections(rt: HostRuntime) -> Result<(), Fail> {
+fn refuses_sections(rt: &impl Abort, alloc: Global) -> Result<(), Fail> {
     let rows: [(&[u8], Kind, u64); 22] = [
         (
             b"<instance><variables><var id=\"x\"> 0..1 </var></variables><constraints> x </constraints></instance>",
@@ -266,13 +267,13 @@ fn refuses_sections(rt: HostRuntime) -> Result<(), Fail> {
         ),
     ];
     for (text, kind, place) in rows {
-        assert_eq!(rt; fault(rt.alloc(), text), Some(Fault { kind, place }));
+        assert_eq!(rt; fault(alloc, text), Some(Fault { kind, place }));
     }
     Ok(())
 }
 
 // Of two faults, that of the unit that comes first in the text.
-fn refuses_by_the_first_unit(rt: HostRuntime) -> Result<(), Fail> {
+fn refuses_by_the_first_unit(rt: &impl Abort, alloc: Global) -> Result<(), Fail> {
     let rows: [(&[u8], Kind, u64); 6] = [
         (
             b"<instance><variables><var/></variables><constraints><stretch/></constraints></instance>",
@@ -306,13 +307,13 @@ fn refuses_by_the_first_unit(rt: HostRuntime) -> Result<(), Fail> {
         ),
     ];
     for (text, kind, place) in rows {
-        assert_eq!(rt; fault(rt.alloc(), text), Some(Fault { kind, place }));
+        assert_eq!(rt; fault(alloc, text), Some(Fault { kind, place }));
     }
     Ok(())
 }
 
 // Blocks, groups and slides: what is read of them, and the first fault.
-fn reads_containers(rt: HostRuntime) -> Result<(), Fail> {
+fn reads_containers(rt: &impl Abort, alloc: Global) -> Result<(), Fail> {
     let rows: [(&[u8], usize, usize); 3] = [
         (
             b"<instance><variables><array id=\"x\" size=\"[3]\"> 0..2 </array></variables><constraints><group><intension> eq(%0,%1) </intension><args> x[0] 1 </args><args> x[1..2] </args></group><block><slide><list> x[] </list><intension> le(%0,%1) </intension></slide></block><allDifferent> x[] </allDifferent></constraints></instance>",
@@ -331,7 +332,7 @@ fn reads_containers(rt: HostRuntime) -> Result<(), Fail> {
         ),
     ];
     for (text, constraints, count) in rows {
-        let instance = read_instance(rt.alloc(), text)?;
+        let instance = read_instance(alloc, text)?;
         assert_eq!(rt; instance.constraints.len(), constraints);
         assert_eq!(rt; items(&instance), count);
     }
@@ -368,22 +369,22 @@ fn reads_containers(rt: HostRuntime) -> Result<(), Fail> {
         ),
     ];
     for (text, kind, place) in rows {
-        assert_eq!(rt; fault(rt.alloc(), text), Some(Fault { kind, place }));
+        assert_eq!(rt; fault(alloc, text), Some(Fault { kind, place }));
     }
     Ok(())
 }
 
 #[test]
 fn reads(rt: HostRuntime) -> Result<(), Fail> {
-    reads_instances(rt)?;
-    reads_containers(rt)?;
+    reads_instances(&rt, rt.alloc())?;
+    reads_containers(&rt, rt.alloc())?;
     Ok(())
 }
 
 #[test]
 fn refuses(rt: HostRuntime) -> Result<(), Fail> {
-    refuses_roots(rt)?;
-    refuses_sections(rt)?;
-    refuses_by_the_first_unit(rt)?;
+    refuses_roots(&rt, rt.alloc())?;
+    refuses_sections(&rt, rt.alloc())?;
+    refuses_by_the_first_unit(&rt, rt.alloc())?;
     Ok(())
 }

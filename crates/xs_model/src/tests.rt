@@ -4,6 +4,7 @@ ghost use Rattle.xs_model.specs.declared.decl.Decl.{Decl};
 
 use super::*;
 use std::alloc::Global;
+use std::process::Abort;
 use std::test::Fail;
 use xf_num::{Domain, NoMemory, Row, Span, Text};
 
@@ -68,8 +69,8 @@ fn names(alloc: Global) -> Result<Names, NameStop>
     Ok(names)
 }
 
-fn finds_variables(rt: HostRuntime) {
-    let Ok(names) = names(rt.alloc()) else {
+fn finds_variables(rt: &impl Abort, alloc: Global) {
+    let Ok(names) = names(alloc) else {
         panic!(rt; "want of memory");
     };
     let rows: [(&[u8], Option<u32>); 20] = [
@@ -101,8 +102,8 @@ fn finds_variables(rt: HostRuntime) {
     assert_eq!(rt; names.find(b"y"), None);
 }
 
-fn finds_arrays_and_cells(rt: HostRuntime) {
-    let Ok(mut names) = names(rt.alloc()) else {
+fn finds_arrays_and_cells(rt: &impl Abort, alloc: Global) {
+    let Ok(mut names) = names(alloc) else {
         panic!(rt; "want of memory");
     };
     assert_eq!(rt; names.array(b"x"), Some(1));
@@ -120,24 +121,24 @@ fn finds_arrays_and_cells(rt: HostRuntime) {
     ] {
         assert_eq!(rt; names.cell(1, place), want);
     }
-    let Ok(v) = variable(rt.alloc()) else {
+    let Ok(v) = variable(alloc) else {
         panic!(rt; "want of memory");
     };
     assert_eq!(rt; names.declare(&v), Err(NameStop::Taken));
     assert_eq!(rt; names.variables(), 4);
 }
 
-fn writes_words(rt: HostRuntime) {
-    let (Ok(v), Ok(x)) = (variable(rt.alloc()), array(rt.alloc())) else {
+fn writes_words(rt: &impl Abort, alloc: Global) {
+    let (Ok(v), Ok(x)) = (variable(alloc), array(alloc)) else {
         panic!(rt; "want of memory");
     };
     assert!(rt; v.name() == b"v".as_slice());
-    let mut decls = Row::new(rt.alloc());
+    let mut decls = Row::new(alloc);
     assert!(rt; decls.push(v).is_ok());
     assert!(rt; decls.push(x).is_ok());
-    let first = word(rt.alloc(), &decls, 0);
-    let second = word(rt.alloc(), &decls, 1);
-    let last = word(rt.alloc(), &decls, 3);
+    let first = word(alloc, &decls, 0);
+    let second = word(alloc, &decls, 1);
+    let last = word(alloc, &decls, 3);
     assert!(rt; first.is_ok_and(|word| word.as_slice() == b"v".as_slice()));
     assert!(rt; second.is_ok_and(|word| word.as_slice() == b"x[0][0]".as_slice()));
     assert!(rt; last.is_ok_and(|word| word.as_slice() == b"x[1][1]".as_slice()));
@@ -171,7 +172,7 @@ fn spans_run_from_the_least_to_the_greatest_value(rt: HostRuntime) -> Result<(),
 
 #[test]
 fn names(rt: HostRuntime) {
-    finds_variables(rt);
-    finds_arrays_and_cells(rt);
-    writes_words(rt);
+    finds_variables(&rt, rt.alloc());
+    finds_arrays_and_cells(&rt, rt.alloc());
+    writes_words(&rt, rt.alloc());
 }

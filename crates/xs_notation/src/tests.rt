@@ -4,6 +4,7 @@ ghost use Rattle.xs_model.specs.declared.decl.Decl.{Decl};
 
 use crate::{count_nodes, read_expr, scan_expr};
 use std::alloc::Global;
+use std::process::Abort;
 use std::test::Fail;
 use xf_num::{Domain, NoMemory, Row, Span, Text};
 use xf_text::{FieldStop, Kind};
@@ -142,7 +143,7 @@ fn missed(alloc: Global, text: &[u8]) -> Result<Option<Condition>, Fail> {
     }
 }
 
-fn words(rt: HostRuntime) -> Result<(), Fail> {
+fn words(rt: &impl Abort, alloc: Global) -> Result<(), Fail> {
     let cases: [(&[u8], &[u8]); 8] = [
         (b"7", b"7"),
         (b" -3\n", b"-3"),
@@ -154,12 +155,12 @@ fn words(rt: HostRuntime) -> Result<(), Fail> {
         (b"neg(add)", b"neg(v0;)"),
     ];
     for (text, want) in cases {
-        assert!(rt; shown(rt.alloc(), text)?.as_slice() == want);
+        assert!(rt; shown(alloc, text)?.as_slice() == want);
     }
     Ok(())
 }
 
-fn calls(rt: HostRuntime) -> Result<(), Fail> {
+fn calls(rt: &impl Abort, alloc: Global) -> Result<(), Fail> {
     let cases: [(&[u8], &[u8]); 9] = [
         (b" add ( add , 1,x[0][0] ) ", b"add(v0;1;v1;)"),
         (b"le(add(add,add),-2)", b"le(add(v0;v0;);-2;)"),
@@ -172,12 +173,12 @@ fn calls(rt: HostRuntime) -> Result<(), Fail> {
         (b"neg(neg(neg(5)))", b"neg(neg(neg(5;););)"),
     ];
     for (text, want) in cases {
-        assert!(rt; shown(rt.alloc(), text)?.as_slice() == want);
+        assert!(rt; shown(alloc, text)?.as_slice() == want);
     }
     Ok(())
 }
 
-fn misspelt_calls(rt: HostRuntime) -> Result<(), Fail> {
+fn misspelt_calls(rt: &impl Abort, alloc: Global) -> Result<(), Fail> {
     let cases: [&[u8]; 16] = [
         b"",
         b" ",
@@ -197,12 +198,12 @@ fn misspelt_calls(rt: HostRuntime) -> Result<(), Fail> {
         b"add(add add)",
     ];
     for text in cases {
-        assert_eq!(rt; missed(rt.alloc(), text)?, Some(Condition::Spelling));
+        assert_eq!(rt; missed(alloc, text)?, Some(Condition::Spelling));
     }
     Ok(())
 }
 
-fn misplaced_operands(rt: HostRuntime) -> Result<(), Fail> {
+fn misplaced_operands(rt: &impl Abort, alloc: Global) -> Result<(), Fail> {
     let cases: [&[u8]; 15] = [
         b"add(add)",
         b"sub(1,2,3)",
@@ -221,12 +222,12 @@ fn misplaced_operands(rt: HostRuntime) -> Result<(), Fail> {
         b"in(add,set(set(1)))",
     ];
     for text in cases {
-        assert_eq!(rt; missed(rt.alloc(), text)?, Some(Condition::Spelling));
+        assert_eq!(rt; missed(alloc, text)?, Some(Condition::Spelling));
     }
     Ok(())
 }
 
-fn misspelt_words(rt: HostRuntime) -> Result<(), Fail> {
+fn misspelt_words(rt: &impl Abort, alloc: Global) -> Result<(), Fail> {
     let cases: [&[u8]; 17] = [
         b"pow(add,0)",
         b"pow(add,65)",
@@ -247,24 +248,24 @@ fn misspelt_words(rt: HostRuntime) -> Result<(), Fail> {
         b"1..2",
     ];
     for text in cases {
-        assert_eq!(rt; missed(rt.alloc(), text)?, Some(Condition::Spelling));
+        assert_eq!(rt; missed(alloc, text)?, Some(Condition::Spelling));
     }
     Ok(())
 }
 
-fn great_integers(rt: HostRuntime) -> Result<(), Fail> {
+fn great_integers(rt: &impl Abort, alloc: Global) -> Result<(), Fail> {
     let cases: [&[u8]; 3] = [
         b"85070591730234615865843651857942052864",
         b"add(y,-85070591730234615865843651857942052864)",
         b"x[0][85070591730234615865843651857942052864]",
     ];
     for text in cases {
-        assert_eq!(rt; missed(rt.alloc(), text)?, Some(Condition::Magnitude));
+        assert_eq!(rt; missed(alloc, text)?, Some(Condition::Magnitude));
     }
     Ok(())
 }
 
-fn names_that_denote_none(rt: HostRuntime) -> Result<(), Fail> {
+fn names_that_denote_none(rt: &impl Abort, alloc: Global) -> Result<(), Fail> {
     let cases: [&[u8]; 11] = [
         b"y",
         b"neg",
@@ -279,20 +280,19 @@ fn names_that_denote_none(rt: HostRuntime) -> Result<(), Fail> {
         b"in(1,set(2,y))",
     ];
     for text in cases {
-        assert_eq!(rt; missed(rt.alloc(), text)?, Some(Condition::Naming));
+        assert_eq!(rt; missed(alloc, text)?, Some(Condition::Naming));
     }
     Ok(())
 }
 
 // Each condition is asked of the whole text before the next one.
-fn spelling_is_asked_first(rt: HostRuntime) -> Result<(), Fail> {
+fn spelling_is_asked_first(rt: &impl Abort, alloc: Global) -> Result<(), Fail> {
     let text = b"add(z,85070591730234615865843651857942052864,1..2)";
-    assert_eq!(rt; missed(rt.alloc(), text)?, Some(Condition::Spelling));
+    assert_eq!(rt; missed(alloc, text)?, Some(Condition::Spelling));
     Ok(())
 }
 
-fn depths(rt: HostRuntime) -> Result<(), Fail> {
-    let alloc = rt.alloc();
+fn depths(rt: &impl Abort, alloc: Global) -> Result<(), Fail> {
     let names = Names::new(alloc);
     let mut deep = Row::new(alloc);
     for _ in 0..200 {
@@ -322,7 +322,7 @@ fn depths(rt: HostRuntime) -> Result<(), Fail> {
     Ok(())
 }
 
-fn nodes(rt: HostRuntime) {
+fn nodes(rt: &impl Abort) {
     let cases: [(&[u8], u64); 6] = [
         (b" 7 ", 1),
         (b"neg(x)", 2),
@@ -339,20 +339,20 @@ fn nodes(rt: HostRuntime) {
 
 #[test]
 fn expressions(rt: HostRuntime) -> Result<(), Fail> {
-    words(rt)?;
-    calls(rt)?;
-    nodes(rt);
-    depths(rt)?;
+    words(&rt, rt.alloc())?;
+    calls(&rt, rt.alloc())?;
+    nodes(&rt);
+    depths(&rt, rt.alloc())?;
     Ok(())
 }
 
 #[test]
 fn refusals(rt: HostRuntime) -> Result<(), Fail> {
-    misspelt_calls(rt)?;
-    misplaced_operands(rt)?;
-    misspelt_words(rt)?;
-    great_integers(rt)?;
-    names_that_denote_none(rt)?;
-    spelling_is_asked_first(rt)?;
+    misspelt_calls(&rt, rt.alloc())?;
+    misplaced_operands(&rt, rt.alloc())?;
+    misspelt_words(&rt, rt.alloc())?;
+    great_integers(&rt, rt.alloc())?;
+    names_that_denote_none(&rt, rt.alloc())?;
+    spelling_is_asked_first(&rt, rt.alloc())?;
     Ok(())
 }

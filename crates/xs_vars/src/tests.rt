@@ -1,5 +1,6 @@
 use crate::{read_declarations, read_variables};
 use std::alloc::Global;
+use std::process::Abort;
 use std::test::Fail;
 use xf_markup::read_tree;
 use xf_text::{Fault, Kind, Stop};
@@ -18,7 +19,7 @@ fn counts(alloc: Global, text: &[u8]) -> Result<(usize, u64, u64), Stop> {
     }
 }
 
-fn variables_declared(rt: HostRuntime) -> Result<(), Fail> {
+fn variables_declared(rt: &impl Abort, alloc: Global) -> Result<(), Fail> {
     let cases: [(&[u8], (usize, u64, u64)); 5] = [
         (b"<variables/>", (0, 0, 0)),
         (b"<variables note=\"n\"> </variables>", (0, 0, 0)),
@@ -36,12 +37,12 @@ fn variables_declared(rt: HostRuntime) -> Result<(), Fail> {
         ),
     ];
     for (text, want) in cases {
-        assert_eq!(rt; counts(rt.alloc(), text), Ok(want));
+        assert_eq!(rt; counts(alloc, text), Ok(want));
     }
     Ok(())
 }
 
-fn arrays_declared(rt: HostRuntime) -> Result<(), Fail> {
+fn arrays_declared(rt: &impl Abort, alloc: Global) -> Result<(), Fail> {
     let cases: [(&[u8], (usize, u64, u64)); 3] = [
         (
             b"<variables><array id=\"a\" size=\"[2][3]\">0 2</array></variables>",
@@ -57,12 +58,12 @@ fn arrays_declared(rt: HostRuntime) -> Result<(), Fail> {
         ),
     ];
     for (text, want) in cases {
-        assert_eq!(rt; counts(rt.alloc(), text), Ok(want));
+        assert_eq!(rt; counts(alloc, text), Ok(want));
     }
     Ok(())
 }
 
-fn variables_refused(rt: HostRuntime) -> Result<(), Fail> {
+fn variables_refused(rt: &impl Abort, alloc: Global) -> Result<(), Fail> {
     let cases: [(&[u8], Kind, u64); 12] = [
         // The container itself comes first.
         (b"<variables id=\"v\"/>", Kind::Unknown, 0),
@@ -112,7 +113,7 @@ fn variables_refused(rt: HostRuntime) -> Result<(), Fail> {
     ];
     for (text, kind, place) in cases {
         assert_eq!(rt;
-            counts(rt.alloc(), text),
+            counts(alloc, text),
             Err(Stop::Refused(Fault { kind, place }))
         );
     }
@@ -134,25 +135,25 @@ fn variable(alloc: Global, text: &[u8], word: &[u8]) -> Result<Option<u32>, Stop
     }
 }
 
-fn names_declared(rt: HostRuntime) -> Result<(), Fail> {
+fn names_declared(rt: &impl Abort, alloc: Global) -> Result<(), Fail> {
     let text = b"<variables><var id=\"x\">0</var><var id=\"y\">1 3</var></variables>".as_slice();
     let cases: [(&[u8], Option<u32>); 3] = [(b"x", Some(0)), (b"y", Some(1)), (b"z", None)];
     for (word, want) in cases {
-        assert_eq!(rt; variable(rt.alloc(), text, word), Ok(want));
+        assert_eq!(rt; variable(alloc, text, word), Ok(want));
     }
     Ok(())
 }
 
 #[test]
 fn declared(rt: HostRuntime) -> Result<(), Fail> {
-    variables_declared(rt)?;
-    arrays_declared(rt)?;
+    variables_declared(&rt, rt.alloc())?;
+    arrays_declared(&rt, rt.alloc())?;
     Ok(())
 }
 
 #[test]
 fn refused(rt: HostRuntime) -> Result<(), Fail> {
-    variables_refused(rt)?;
-    names_declared(rt)?;
+    variables_refused(&rt, rt.alloc())?;
+    names_declared(&rt, rt.alloc())?;
     Ok(())
 }
