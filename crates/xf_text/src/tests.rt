@@ -152,7 +152,7 @@ fn texts(rt: HostRuntime) -> Result<(), Fail> {
 }
 
 #[test]
-fn numbers(rt: HostRuntime) {
+fn integers(rt: HostRuntime) {
     numbers_in_texts(&rt);
     texts_that_are_no_numbers(&rt);
     kinds_are_numbered(&rt);

@@ -171,7 +171,7 @@ fn spans_run_from_the_least_to_the_greatest_value(rt: HostRuntime) -> Result<(),
 }
 
 #[test]
-fn names(rt: HostRuntime) {
+fn words_of_variables(rt: HostRuntime) {
     finds_variables(&rt, rt.alloc());
     finds_arrays_and_cells(&rt, rt.alloc());
     writes_words(&rt, rt.alloc());
