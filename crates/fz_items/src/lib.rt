@@ -15,6 +15,8 @@ mod notes;
 mod param;
 mod predicate;
 mod progress;
+#[cfg(test)]
+mod tests;
 mod variable;
 
 pub use items::read_syntax_items;

@@ -9,6 +9,8 @@ mod fitting;
 mod integer;
 mod meaning;
 mod names;
+#[cfg(test)]
+mod tests;
 mod value;
 
 pub use arguments::{

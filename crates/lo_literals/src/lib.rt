@@ -7,6 +7,8 @@
 
 mod literal;
 mod table;
+#[cfg(test)]
+mod tests;
 
 pub use literal::{literal_of, literals_of};
 pub use table::Literals;

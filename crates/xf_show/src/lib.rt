@@ -7,6 +7,8 @@
 mod instance;
 mod lines;
 mod model;
+#[cfg(test)]
+mod tests;
 
 pub use instance::instance_summary;
 pub use model::model_summary;
