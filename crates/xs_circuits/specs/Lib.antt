@@ -1,0 +1,3 @@
+pub mod Circuit
+pub mod Law
+pub mod Written
