@@ -1,5 +1,5 @@
 -- The texts of elements as they are put together, and what an element meets beside its limit.
-use Rattle.std.proofs.Common.{◌≡◌, ℕ, ◌≤◌, Bool, true, false, List, [], ◌∷◌, ◌++◌, codes, None, refl, ap, sym, ◌∙◌, append-nil, append_assoc, arith}
+use Rattle.std.proofs.Common.{◌≡◌, ℕ, Bool, true, false, List, [], ◌∷◌, ◌++◌, codes, refl, ap, append-nil, append_assoc}
 use Rattle.xs_automata.specs.Mdd.{diagram_meets}
 use Rattle.xs_automata.specs.Regular.{automaton_meets}
 use Rattle.xs_fields.specs.declared.condition.Condition.{Condition}

@@ -1,5 +1,5 @@
 -- What is written is read again, form by form.
-use Rattle.std.proofs.Common.{◌≡◌, ℕ, ◌≤◌, ℤ, Bool, true, false, List, [], ◌∷◌, Option, None, ◌∙◌, arith}
+use Rattle.std.proofs.Common.{◌≡◌, ℕ, ℤ, Bool, true, false, List, [], ◌∷◌, Option, None, ◌∙◌, arith}
 use Rattle.xf_num.specs.Span.{Bounds}
 use Rattle.xs_automata.specs.Mdd.{diagram_meets}
 use Rattle.xs_automata.specs.Regular.{automaton_meets}
