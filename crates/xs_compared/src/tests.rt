@@ -54,7 +54,7 @@ fn different(alloc: Global) -> Result<Constraint, NoMemory>
     })
 }
 
-// The second value is the first and 2 at most, and so on; the second length is the fourth value.
+// The first value and 2 stand so to the second, and that and the fourth to the third.
 fn ordered(alloc: Global, rel: Rel) -> Result<Constraint, NoMemory>
     ensures form { IfOk result (λ c. is_compared c ≡ true) }
     ensures formed { IfOk result (λ c. IsFormed 4 c) }
