@@ -1,0 +1,11 @@
+pub mod Bounded
+pub mod LoadLemmas
+pub mod EndLemmas
+pub mod PeakLemmas
+pub mod MeasuredLemmas
+pub mod FormedLemmas
+pub mod CumulativeLemmas
+pub mod LawLemmas
+pub mod Factors
+pub mod Stopping
+pub mod SoundLemmas

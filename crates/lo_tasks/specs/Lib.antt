@@ -1,0 +1,4 @@
+pub mod Cumulative
+pub mod Laws
+pub mod Bounded
+pub mod Form
