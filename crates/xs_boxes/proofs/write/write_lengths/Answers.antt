@@ -1,0 +1,11 @@
+use Rattle.std.proofs.Common.{◌++◌, List, ℕ, codes, map, ap, ◌∙◌, append_assoc}
+use Rattle.std.specs.List.{flat_map}
+use Rattle.xs_model.specs.Names.{words}
+use Rattle.xs_boxes.specs.Written.{is_flat, length_word}
+use Rattle.xs_boxes.proofs.write.write_lengths.Goals as goal
+
+pub loop-length-init : goal.loop-length-init
+loop-length-init c =
+    let rows = c.args.lengths.now in
+    let rest = flat_map (λ (w : List ℕ). w ++ codes " ") (map (length_word (words c.args.decls.now) (is_flat rows)) rows) in
+    ap (λ xs. xs ++ rest) c.in_ok-extend_from_slice.ensures.items ∙ append_assoc c.args.out.now.items (codes " ") rest

@@ -1,0 +1,104 @@
+//! Lengths that are tuples of direct words and integers.
+
+ghost use Rattle.std.specs.Prelude.{◌≡◌, ◌∷◌, ◌++◌, [], ◌+◌, length, map, None, IfOk};
+ghost use Rattle.xs_boxes.specs.Tuples.{length_of, tuple_meets, width_of};
+ghost use Rattle.xs_conditions.specs.Single.{single_meets, single_of};
+ghost use Rattle.xs_fields.specs.Conditions.{all_meet, first_missed};
+ghost use Rattle.xs_fields.specs.Scanning.{joined};
+ghost use Rattle.xs_fields.specs.Words.{is_byte, parts};
+ghost use Rattle.xs_tables.specs.Groups.{groups_meet, groups_of, is_room_for};
+
+use crate::widths::count_parts;
+use std::alloc::Global;
+use xf_num::{NoMemory, Row};
+use xs_conditions::scan_single;
+use xs_fields::{Condition, Reading, cut, earlier};
+use xs_model::{Names, Terms};
+use xs_tables::{has_room, inner, joined, judge_behind, next_group};
+
+// The terms between commas, and the first condition that they miss.
+fn scan_entries(alloc: Global, inner: &[u8], names: &Names) -> Result<Reading<Terms>, NoMemory>
+    ensures missed { IfOk result (λ r. r.missed ≡ first_missed (all_meet (single_meets names.now) (parts (is_byte 44) inner.now))) }
+    ensures value { IfOk result (λ r. r.missed ≡ None → r.value ≡ map (single_of names.now) (parts (is_byte 44) inner.now)) }
+    ensures width { IfOk result (λ r. length r.value ≡ length (parts (is_byte 44) inner.now)) }
+{
+    let mut entries = Row::with_room(alloc, count_parts(inner))?;
+    let mut missed = None;
+    let mut rest = Some(inner);
+    while let Some(bytes) = rest {
+        let (word, more) = cut(bytes, b',');
+        let entry = scan_single(alloc, names, word)?;
+        entries.push(entry.value)?;
+        missed = earlier(missed, entry.missed);
+        rest = more;
+    }
+    Ok(Reading {
+        value: entries,
+        missed,
+    })
+}
+
+// The terms of a tuple, and the first condition that it misses.
+fn scan_tuple(alloc: Global, group: &[u8], names: &Names) -> Result<Reading<Terms>, NoMemory>
+    ensures missed { IfOk result (λ r. r.missed ≡ first_missed (tuple_meets (single_meets names.now) group.now)) }
+    ensures value { IfOk result (λ r. r.missed ≡ None → r.value ≡ length_of names.now group.now) }
+    ensures width { IfOk result (λ r. length r.value ≡ width_of group.now) }
+{
+    match inner(group) {
+        Some(inner) => scan_entries(alloc, inner, names),
+        None => Ok(Reading {
+            value: Row::new(alloc),
+            missed: Some(Condition::Spelling),
+        }),
+    }
+}
+
+// Appends the terms of a tuple, where nothing is missed and they have room. What is missed with it.
+fn take_tuple(
+    alloc: Global,
+    rows: &mut Row<Terms>,
+    count: &mut u64,
+    missed: Option<Condition>,
+    group: &[u8],
+    names: &Names,
+    left: u64,
+) -> Result<Option<Condition>, NoMemory>
+    ensures missed { IfOk result (λ m. m ≡ joined missed (first_missed (tuple_meets (single_meets names.now) group.now)) (is_room_for left count.old (width_of group.now))) }
+    ensures value { IfOk result (λ m. m ≡ None → rows.new ≡ rows.old ++ length_of names.now group.now ∷ []) }
+    ensures count { IfOk result (λ m. m ≡ None → count.new ≡ count.old + width_of group.now) }
+{
+    let reading = scan_tuple(alloc, group, names)?;
+    let more = reading.value.len() as u64;
+    let room = has_room(left, *count, more);
+    let next = joined(missed, reading.missed, room);
+    if next.is_none() {
+        rows.push(reading.value)?;
+        *count += more;
+    }
+    Ok(next)
+}
+
+/// The lengths that a text of tuples denotes, and the first condition that the text misses where at most `left` entries are
+/// allowed. Past the limit no row is kept, and the tuples are judged to the end.
+pub(crate) fn scan_lengths(
+    alloc: Global,
+    text: &[u8],
+    names: &Names,
+    left: u64,
+) -> Result<Reading<Row<Terms>>, NoMemory>
+    ensures missed { IfOk result (λ r. r.missed ≡ first_missed (groups_meet (tuple_meets (single_meets names.now)) (length_of names.now) text.now left)) }
+    ensures value { IfOk result (λ r. r.missed ≡ None → r.value ≡ map (length_of names.now) (groups_of text.now)) }
+{
+    let mut rows = Row::new(alloc);
+    let mut count = 0;
+    let mut missed = None;
+    let mut rest = text;
+    while let Some((group, more)) = next_group(rest) {
+        missed = take_tuple(alloc, &mut rows, &mut count, missed, group, names, left)?;
+        rest = more;
+    }
+    Ok(Reading {
+        value: rows,
+        missed: earlier(missed, judge_behind(rest)),
+    })
+}
