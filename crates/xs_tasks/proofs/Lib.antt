@@ -1,0 +1,10 @@
+pub mod MissedLemmas
+pub mod TermLemmas
+pub mod LimitLemmas
+pub mod GoodLemmas
+pub mod SizeLemmas
+pub mod HoldLemmas
+pub mod LoadLemmas
+pub mod TextLemmas
+pub mod AgainLemmas
+pub mod TestLemmas
