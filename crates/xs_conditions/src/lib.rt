@@ -15,6 +15,8 @@ mod operator;
 mod range;
 mod single;
 mod spelling;
+#[cfg(test)]
+mod tests;
 
 pub use condition::{count_items, scan_condition};
 pub use flag::{scan_flag, scan_rel, scan_start};
