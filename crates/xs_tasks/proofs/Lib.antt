@@ -1,0 +1,4 @@
+pub mod MissedLemmas
+pub mod TermLemmas
+pub mod LimitLemmas
+pub mod GoodLemmas
