@@ -2,8 +2,11 @@
 #![tactic(auto)]
 
 mod children;
+mod holds;
 mod limit;
+mod load;
 mod sizes;
 mod tasks;
 
+pub use holds::holds_cumulative;
 pub use tasks::read_cumulative;
