@@ -5,3 +5,5 @@ pub mod GoodLemmas
 pub mod SizeLemmas
 pub mod HoldLemmas
 pub mod LoadLemmas
+pub mod TextLemmas
+pub mod AgainLemmas
