@@ -7,3 +7,4 @@ pub mod HoldLemmas
 pub mod LoadLemmas
 pub mod TextLemmas
 pub mod AgainLemmas
+pub mod TestLemmas
